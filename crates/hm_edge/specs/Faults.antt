@@ -1,0 +1,14 @@
+-- Counts of faults: a 64-bit number that never falls.
+use Rattle.std.specs.Prelude.{ℕ, ◌+◌, ◌≤◌, min}
+
+-- the greatest count, at which a count stands still
+abbrev pub last_count : ℕ
+last_count = 18446744073709551615
+
+-- the count after one more
+abbrev pub next_count : ℕ → ℕ
+next_count count = min (count + 1) last_count
+
+-- the count rose: it is greater, or at its type's end
+abbrev pub Rose : ℕ → ℕ → Type 0
+Rose old new = next_count old ≤ new
