@@ -1,0 +1,15 @@
+//! Orders, the files that hold them, and the report that tells what became of them.
+//!
+//! [`read_orders`] reads an order file, [`write_report`] writes a report. Both formats stand in docs/FORMATS.md and, as
+//! definitions that the contracts cite, in `specs/Rows.antt` and `specs/ReportText.antt`.
+#![tactic(auto)]
+
+mod order;
+mod read;
+mod report;
+mod write;
+
+pub use order::{Kind, Order, Side};
+pub use read::{Part, ReadRefused, TextRefused, read_orders};
+pub use report::{Board, Done, DoneList, Fate, Fill, Fills, Report};
+pub use write::{WriteRefused, write_report};
