@@ -1,13 +1,12 @@
-// A library with one function.
+//! The order book: resting orders, and what an order that comes does to them.
+//!
+//! The book is plain here: a list of resting orders in order of root numbers, the numbers that are given to orders in
+//! the order of applying them. `specs/Trading.antt` and `specs/Effect.antt` say what one order does, and
+//! `specs/Run.antt` what a list of orders does and which report tells it.
 #![tactic(auto)]
 
-ghost use Rattle.std.specs.Prelude.{◌≡◌};
-ghost use Rattle.hm_book.specs.Echo.{echo_of};
+mod book;
+mod limits;
 
-// The `ensures` clause is the contract: what `echo` returns is `echo_of` of its argument, a definition
-// in `specs/Echo.antt`, which a caller's clause can cite too.
-pub fn echo(x: usize) -> usize
-    ensures { result ≡ echo_of x }
-{
-    x
-}
+pub use book::{Book, Memory, Resting};
+pub use limits::Limits;

