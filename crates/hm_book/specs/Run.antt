@@ -26,27 +26,40 @@ next_effect limits state order = effect_of limits order (state.applied + 1) stat
 abbrev pub done_of : Limits → BookState → Order → Done
 done_of limits state order =
     let effect = next_effect limits state order in
-    record { root = state.applied + 1; file = order.file; row = order.row; fate = effect.fate; fills = effect.fills }
+    record {
+      root = state.applied + 1;
+      file = order.file;
+      row = order.row;
+      fate = effect.fate;
+      fills = effect.fills;
+    }
 
 -- the state after the next order
 abbrev pub state_after : Limits → BookState → Order → BookState
 state_after limits state order =
     let effect = next_effect limits state order in
-    record { book = effect.book; applied = state.applied + 1; fills = state.fills + length effect.fills }
+    record {
+      book = effect.book;
+      applied = state.applied + 1;
+      fills = state.fills + length effect.fills;
+    }
 
 -- what became of each of the orders, one after another
 abbrev pub dones_of : Limits → BookState → List Order → List Done
 dones_of limits state [] = []
-dones_of limits state (order ∷ orders) = done_of limits state order ∷ dones_of limits (state_after limits state order) orders
+dones_of limits state (order ∷ orders) =
+    done_of limits state order ∷ dones_of limits (state_after limits state order) orders
 
 -- the state after all of the orders
 abbrev pub state_after_all : Limits → BookState → List Order → BookState
 state_after_all limits state [] = state
-state_after_all limits state (order ∷ orders) = state_after_all limits (state_after limits state order) orders
+state_after_all limits state (order ∷ orders) =
+    state_after_all limits (state_after limits state order) orders
 
 -- how many of the orders each of the first files has
 abbrev pub rows_by_file : ℕ → List Order → List ℕ
-rows_by_file files orders = map (λ file. count_by (λ order. order.file == file) orders) (range_with_len 1 files)
+rows_by_file files orders =
+    map (λ file. count_by (λ order. order.file == file) orders) (range_with_len 1 files)
 
 -- the report of the run of the orders from the empty book, with so many files
 abbrev pub report_of : Limits → ℕ → List Order → Report

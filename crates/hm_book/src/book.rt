@@ -1,17 +1,31 @@
 //! The plain book.
-ghost use Rattle.std.specs.Prelude.{◌≡◌, ◌<◌, length, IsTrue, IfOk, OnOk, OnErr};
+ghost use Rattle.std.specs.Prelude.{◌≡◌, ◌<◌, length, IsOk, IsTrue, IfOk, OnOk, OnErr};
 ghost use Rattle.hm_orders.specs.Orders.{IsWellFormed};
 ghost use Rattle.hm_book.specs.Limits.{admits};
+ghost use Rattle.hm_book.specs.Effect.{rests};
 ghost use Rattle.hm_book.specs.Run.{done_of, empty_state, state_after};
 
 use crate::limits::Limits;
-use hm_orders::{Done, Kind, Order, Side};
-use std::alloc::Global;
+use crate::trading::trade;
+use hm_orders::{Done, Fills, Kind, Order, Side};
+use std::alloc::{AllocError, AllocFailed, Global};
 use std::marker::Model;
 
 /// Want of memory.
 #[derive(Clone, Copy, Debug, PartialEq, Eq)]
 pub struct Memory;
+
+impl From<AllocError> for Memory {
+    fn from(_error: AllocError) -> Memory {
+        Memory
+    }
+}
+
+impl<T: Drop> From<AllocFailed<T>> for Memory {
+    fn from(_failed: AllocFailed<T>) -> Memory {
+        Memory
+    }
+}
 
 /// An order that rests in the book.
 #[derive(Clone, Copy, Debug, PartialEq, Eq)]
@@ -40,7 +54,12 @@ impl Model for Book {
 
     ghost Value = { BookState };
 
+    ghost use Rattle.hm_book.specs.Sound.{IsSound};
+
     ghost view = { λ b. record { book = b.resting.items; applied = b.applied; fills = b.fills } };
+
+    ghost invariant = { λ b.
+        IsSound (record { book = b.resting.items; applied = b.applied; fills = b.fills }) };
 }
 
 impl Book {
@@ -62,7 +81,8 @@ impl Book {
         self.resting.len() as u64
     }
 
-    /// Applies an order: it trades with the best opposite orders that it crosses, and what is left of it rests.
+    /// Applies an order: it trades with the best opposite orders that it crosses, and what is left of it rests. After
+    /// `Memory` nothing has changed.
     pub fn apply(&mut self, limits: &Limits, order: &Order) -> Result<Done, Memory>
         requires limit { order.now.kind ≡ Kind.Limit }
         requires admitted { IsTrue (admits limits.now order.now) }
@@ -72,9 +92,26 @@ impl Book {
         ensures done { IfOk result (λ done. done ≡ done_of limits.now self.old order.now) }
         ensures book { OnOk result (self.new ≡ state_after limits.now self.old order.now) }
         ensures memory { OnErr result (self.new ≡ self.old) }
+
+        // A repeated order takes no memory.
+        ensures repeated { IsTrue (rests order.now.file order.now.id self.old.book) → IsOk result }
     {
-        let _ = limits;
-        let _ = order;
-        Err(Memory)
+        prove!(limits.admits(order));
+        let root = self.applied + 1;
+        let made = self.fills;
+        let alloc = *self.resting.allocator();
+        let outcome = trade(alloc, &mut self.resting, order, root, made)?;
+        self.applied = root;
+        self.fills += outcome.fills.len() as u64;
+        Ok(Done {
+            root,
+            file: order.file,
+            row: order.row,
+            fate: outcome.fate,
+            fills: Fills::new(outcome.fills),
+        })
     }
 }
+
+#[cfg(test)]
+mod tests;

@@ -2,11 +2,16 @@
 //!
 //! The book is plain here: a list of resting orders in order of root numbers, the numbers that are given to orders in
 //! the order of applying them. `specs/Trading.antt` and `specs/Effect.antt` say what one order does, and
-//! `specs/Run.antt` what a list of orders does and which report tells it.
+//! `specs/Run.antt` what a list of orders does and which report tells it. `src/laws.rt` has laws of these definitions.
 #![tactic(auto)]
 
 mod book;
+mod laws;
 mod limits;
+mod priority;
+mod queue;
+mod trading;
 
 pub use book::{Book, Memory, Resting};
+pub use laws::{a_book_stays_sound, an_order_trades_along_its_queue, best_opposite_is_best};
 pub use limits::Limits;

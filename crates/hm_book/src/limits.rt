@@ -1,4 +1,8 @@
 //! Which orders a book admits.
+ghost use Rattle.std.specs.Prelude.{◌≡◌};
+ghost use Rattle.hm_book.specs.Limits.{admits};
+
+use hm_orders::{Kind, Order};
 
 /// Bounds on the orders that a book admits.
 #[derive(Clone, Copy, Debug, PartialEq, Eq)]
@@ -18,4 +22,17 @@ impl Limits {
         low: 1,
         high: u32::MAX,
     };
+
+    /// Whether the limits admit the order.
+    pub(crate) fn admits(&self, order: &Order) -> bool
+        ensures { result ≡ admits self.now order.now }
+    {
+        let has_quantity = order.quantity <= self.max_quantity;
+        let has_price = self.low <= order.price && order.price <= self.high;
+        match order.kind {
+            Kind::Limit | Kind::Immediate => has_quantity && has_price,
+            Kind::Market => has_quantity,
+            Kind::Cancel => true,
+        }
+    }
 }

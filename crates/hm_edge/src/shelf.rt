@@ -1,7 +1,13 @@
 //! A shelf: bytes by name.
 ghost use Rattle.std.specs.Prelude.{◌≡◌, ℕ, ◌<◌, ◌≤◌, List, length, Option, IfSome, Err, OnOk, OnErr};
 ghost use Rattle.hm_edge.specs.Faults.{Rose};
-ghost use Rattle.hm_edge.specs.Shelves.{Appends, failed_after};
+ghost use Rattle.hm_edge.specs.Shelves.{Appends, IsRefusalFor, failed_after};
+ghost use Rattle.hm_edge.specs.declared.shelf.ShelfRefused.TheVariants.{Memory as OutOfMemory};
+
+use crate::memory::Memory;
+use std::alloc::AllocError;
+use std::io;
+use std::io::ErrorKind;
 
 /// Why a read was refused.
 #[derive(Clone, Copy, Debug, PartialEq, Eq)]
@@ -12,6 +18,33 @@ pub enum ShelfRefused {
     Long,
     /// Memory ran out.
     Memory,
+}
+
+impl From<Memory> for ShelfRefused {
+    ghost from_gives = { λ _ refused. refused ≡ OutOfMemory };
+
+    fn from(_memory: Memory) -> ShelfRefused {
+        ShelfRefused::Memory
+    }
+}
+
+impl From<AllocError> for ShelfRefused {
+    ghost from_gives = { λ _ refused. refused ≡ OutOfMemory };
+
+    fn from(_refused: AllocError) -> ShelfRefused {
+        ShelfRefused::Memory
+    }
+}
+
+impl From<io::Error> for ShelfRefused {
+    ghost from_gives = { IsRefusalFor };
+
+    fn from(error: io::Error) -> ShelfRefused {
+        match error.kind() {
+            ErrorKind::OutOfMemory => ShelfRefused::Memory,
+            _ => ShelfRefused::Failed,
+        }
+    }
 }
 
 /// Where bytes are read from, by name.

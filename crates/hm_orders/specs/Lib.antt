@@ -1,3 +1,4 @@
 pub mod Orders
 pub mod Rows
 pub mod ReportText
+pub mod Putting

@@ -12,7 +12,7 @@ use Rattle.hm_orders.specs.declared.report.Report.{Report}
 abbrev pub spaced : List ℕ → List ℕ
 spaced numbers = flat_map (λ number. 32 ∷ decimal number) numbers
 
--- a line that begins with a word and goes on with numbers
+-- a line that begins with a word and goes on with numbers, ended by a line feed (10)
 abbrev pub line_of : List ℕ → List ℕ → List ℕ
 line_of word numbers = word ++ spaced numbers ++ 10 ∷ []
 
@@ -26,17 +26,19 @@ fate_name Unknown = codes "unknown"
 fate_name Repeated = codes "repeated"
 fate_name Denied = codes "denied"
 
--- an order: its root number, file, row and fate
+-- the line of an order: its root number, file, row and fate
 abbrev pub order_line : Done → List ℕ
 order_line done =
-    codes "order" ++ spaced (done.root ∷ done.file ∷ done.row ∷ []) ++ 32 ∷ fate_name done.fate ++ 10 ∷ []
+    codes "order" ++ spaced (done.root ∷ done.file ∷ done.row ∷ [])
+    ++ 32 ∷ fate_name done.fate ++ 10 ∷ []
 
--- a fill: its number, the root numbers of taker and maker, its price and quantity
+-- the line of a fill: its number, the root numbers of taker and maker, its price and quantity
 abbrev pub fill_line : Fill → List ℕ
 fill_line fill =
-    line_of (codes "fill") (fill.number ∷ fill.taker ∷ fill.maker ∷ fill.price ∷ fill.quantity ∷ [])
+    line_of (codes "fill")
+    (fill.number ∷ fill.taker ∷ fill.maker ∷ fill.price ∷ fill.quantity ∷ [])
 
--- an order and then its fills
+-- the line of an order and then those of its fills
 abbrev pub done_lines : Done → List ℕ
 done_lines done = order_line done ++ flat_map fill_line done.fills
 
@@ -44,11 +46,13 @@ done_lines done = order_line done ++ flat_map fill_line done.fills
 abbrev pub fill_count : List Done → ℕ
 fill_count dones = sum_by (λ done. length done.fills) dones
 
--- each order with its fills, then the board, then the numbers of orders, of fills and of orders that rest
+-- each order with its fills, then the board, then the numbers of orders, fills and resting orders
 abbrev pub report_text : Report → List ℕ
 report_text report =
-    flat_map done_lines report.done ++ line_of (codes "board") report.board
-    ++ line_of (codes "end") (length report.done ∷ fill_count report.done ∷ report.resting ∷ [])
+    flat_map done_lines report.done
+    ++ line_of (codes "board") report.board
+    ++ line_of (codes "end")
+    (length report.done ∷ fill_count report.done ∷ report.resting ∷ [])
 
 -- what a sink tells is what it told before and then a front of the text
 pub record AddsFront (text : List ℕ) (old new : Option (List ℕ)) : Type 0 where

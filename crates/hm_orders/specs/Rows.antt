@@ -1,7 +1,8 @@
 -- Order files: which orders their bytes hold.
 --
--- Rows are read by hand for now, and limit orders alone are accepted.
-use Rattle.std.specs.Prelude.{◌≡◌, ℕ, ◌+◌, ◌==◌, nat_lt, nat_le, Bool, true, false, not, ◌&&◌, if◌then◌else◌, List, [], ◌∷◌, length, filter, Option, Some, None, Result, Ok, Err, ok_or}
+-- For now limit orders alone are accepted, and nothing is quoted: each byte but a line feed belongs
+-- to its line.
+use Rattle.std.specs.Prelude.{◌≡◌, ℕ, ◌+◌, ◌==◌, nat_lt, nat_le, Bool, false, ◌&&◌, if◌then◌else◌, List, [], ◌∷◌, length, filter, Option, Some, None, Result, Ok, Err, ok_or}
 use Rattle.std.specs.List.{slice_split}
 use Rattle.std.specs.Str.{all_ascii_digits}
 use Rattle.std.specs.Str.Parse.{digits_value}
@@ -26,7 +27,7 @@ abbrev pub ◌>>=◌ : {A B E : Type 0} → Result A E → (A → Result B E) �
 abbrev pub most_rows : ℕ
 most_rows = 1000000
 
--- the rows of a file: its lines, each ended by a line feed (10) or by the end of the file, but for the empty ones
+-- the rows of a file: its lines that are not empty, which line feeds (10) separate
 abbrev pub rows_of : List ℕ → List (List ℕ)
 rows_of bytes = filter (λ line. nat_lt 0 (length line)) (slice_split (λ byte. byte == 10) bytes)
 
@@ -71,7 +72,8 @@ order_of_fields file row fields = Err Fields
 
 -- the order that a row spells, or the first part that is refused
 abbrev pub order_of_row : ℕ → ℕ → List ℕ → Result Order Part
-order_of_row file row line = if nat_lt most_rows row then Err TooMany else order_of_fields file row (fields_of line)
+order_of_row file row line =
+    if nat_lt most_rows row then Err TooMany else order_of_fields file row (fields_of line)
 
 -- a refusal names the row and the part
 abbrev pub at_row : {X : Type 0} → ℕ → Result X Part → Result X TextRefused

@@ -1,12 +1,18 @@
 //! Orders, the files that hold them, and the report that tells what became of them.
 //!
-//! [`read_orders`] reads an order file, [`write_report`] writes a report. Both formats stand in docs/FORMATS.md and, as
-//! definitions that the contracts cite, in `specs/Rows.antt` and `specs/ReportText.antt`.
+//! [`read_orders`] reads an order file, [`write_report`] writes a report. Both formats stand in
+//! docs/FORMATS.md and, as definitions that the contracts cite, in `specs/Rows.antt` and
+//! `specs/ReportText.antt`.
 #![tactic(auto)]
 
+mod field;
+mod lines;
 mod order;
 mod read;
 mod report;
+mod row;
+#[cfg(test)]
+mod tests;
 mod write;
 
 pub use order::{Kind, Order, Side};

@@ -1,6 +1,7 @@
 //! What became of the orders of a replay.
 ghost use Rattle.std.specs.Prelude.{◌≡◌};
 
+use std::fmt;
 use std::marker::Model;
 
 /// What became of an order.
@@ -20,6 +21,25 @@ pub enum Fate {
     Repeated,
     /// The limits do not admit it.
     Denied,
+}
+
+impl fmt::Display for Fate {
+    ghost use Rattle.std.specs.Prelude.{Some};
+    ghost use Rattle.hm_orders.specs.ReportText.{fate_name};
+
+    ghost output = { λ fate. Some (fate_name fate) };
+
+    fn fmt<W: fmt::Write>(&self, f: &mut fmt::Formatter<W>) -> fmt::Result {
+        f.write_str(match self {
+            Fate::Rested => "rested",
+            Fate::Filled => "filled",
+            Fate::Dropped => "dropped",
+            Fate::Cancelled => "cancelled",
+            Fate::Unknown => "unknown",
+            Fate::Repeated => "repeated",
+            Fate::Denied => "denied",
+        })
+    }
 }
 
 /// One trade between two orders, at the resting order's price.

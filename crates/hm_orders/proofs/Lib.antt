@@ -1,0 +1,5 @@
+pub mod Accepted
+pub mod Cuts
+pub mod Digits
+pub mod Putting
+pub mod Reading

@@ -1,0 +1,3 @@
+pub mod Words
+pub mod Replay
+pub mod Refusals

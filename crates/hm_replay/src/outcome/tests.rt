@@ -1,0 +1,115 @@
+//! The program's work over shelves and sinks in memory.
+
+use crate::run;
+use hm_edge::{MemoryShelf, MemorySink, SinkFail};
+use std::alloc::{AllocError, Global};
+use std::test::Fail;
+
+/// The words of a replay.
+fn words_of(alloc: Global, words: &[&str]) -> Result<Vec<String>, AllocError> {
+    let mut texts = Vec::new(alloc);
+    for word in words {
+        texts.push(String::from_str(alloc, word)?)?;
+    }
+    Ok(texts)
+}
+
+/// A shelf with one file, `a`.
+fn shelf_of(alloc: Global, text: &str) -> Result<MemoryShelf, AllocError> {
+    let mut files = Vec::new(alloc);
+    let name = String::from_str(alloc, "a")?;
+    let bytes = text.as_bytes().to_vec(alloc)?;
+    files.push((name, bytes))?;
+    Ok(MemoryShelf::new(files, Vec::new(alloc)))
+}
+
+/// A file's text, the status, the report and the line of the refusal.
+const FILES: [(&str, u8, &str, &str); 9] = [
+    ("", 0, "board 0\nend 0 0 0\n", ""),
+    (
+        "L,1,B,10,5\nL,2,S,9,3\n",
+        0,
+        "order 1 1 1 rested\norder 2 1 2 filled\nfill 1 2 1 10 3\nboard 2\nend 2 1 1\n",
+        "",
+    ),
+    (
+        "L,1,B,10,4\nL,2,B,10,6\nL,3,S,10,10\n",
+        0,
+        "order 1 1 1 rested\norder 2 1 2 rested\norder 3 1 3 filled\nfill 1 3 1 10 4\nfill 2 3 2 10 6\nboard 3\nend 3 2 0\n",
+        "",
+    ),
+    (
+        "L,1,B,10,5\nL,1,B,11,2\nL,2,S,10,5\nL,1,B,9,1\n",
+        0,
+        "order 1 1 1 rested\norder 2 1 2 repeated\norder 3 1 3 filled\nfill 1 3 1 10 5\norder 4 1 4 rested\nboard 4\nend 4 1 1\n",
+        "",
+    ),
+    (
+        "L,1,B,4294967295,1\n",
+        0,
+        "order 1 1 1 rested\nboard 1\nend 1 0 1\n",
+        "",
+    ),
+    ("L,1,B,4294967296,1\n", 3, "", "hm: text 1 1 price\n"),
+    ("L,1,B,0,1\n", 3, "", "hm: text 1 1 price\n"),
+    ("L,1,B,10,5\n\nL,2,S,9\n", 3, "", "hm: text 1 2 fields\n"),
+    ("X,1,B,10,5", 3, "", "hm: text 1 1 kind\n"),
+];
+
+#[test]
+fn a_file_gives_its_report_or_the_first_refused_row(rt: HostRuntime) -> Result<(), Fail> {
+    let alloc = rt.alloc();
+    let words = words_of(alloc, &["replay", "a"])?;
+    for (text, status, report, line) in FILES {
+        let mut shelf = shelf_of(alloc, text)?;
+        let mut out = MemorySink::new(alloc, 1024, Vec::new(alloc))?;
+        let mut err = MemorySink::new(alloc, 1024, Vec::new(alloc))?;
+        let outcome = run(alloc, words.as_slice(), &mut shelf, &mut out, &mut err);
+        assert_eq!(rt; outcome.status, status, "at {text}");
+        assert_eq!(rt; out.bytes(), report.as_bytes(), "at {text}");
+        assert_eq!(rt; err.bytes(), line.as_bytes(), "at {text}");
+    }
+    Ok(())
+}
+
+/// The words, the status and the line of the refusal, where `a` is the only file.
+const WORDS: [(&[&str], u8, &str); 7] = [
+    (&[], 2, "hm: words\n"),
+    (&["replay"], 2, "hm: words\n"),
+    (&["frob", "a"], 2, "hm: words\n"),
+    (&["replay", "-a"], 2, "hm: words\n"),
+    (&["replay", ""], 2, "hm: words\n"),
+    (&["replay", "a", "a"], 2, "hm: words\n"),
+    (&["replay", "b"], 4, "hm: read 1\n"),
+];
+
+#[test]
+fn other_words_and_missing_files_are_refused(rt: HostRuntime) -> Result<(), Fail> {
+    let alloc = rt.alloc();
+    for (words, status, line) in WORDS {
+        let words = words_of(alloc, words)?;
+        let mut shelf = shelf_of(alloc, "")?;
+        let mut out = MemorySink::new(alloc, 1024, Vec::new(alloc))?;
+        let mut err = MemorySink::new(alloc, 1024, Vec::new(alloc))?;
+        let outcome = run(alloc, words.as_slice(), &mut shelf, &mut out, &mut err);
+        assert_eq!(rt; outcome.status, status, "at {line}");
+        assert!(rt; out.bytes().is_empty(), "at {line}");
+        assert_eq!(rt; err.bytes(), line.as_bytes());
+    }
+    Ok(())
+}
+
+#[test]
+fn a_failed_write_leaves_a_front_of_the_report(rt: HostRuntime) -> Result<(), Fail> {
+    let alloc = rt.alloc();
+    let words = words_of(alloc, &["replay", "a"])?;
+    let mut shelf = shelf_of(alloc, "L,1,B,10,5\nL,2,S,9,3\n")?;
+    let fails = vec![in alloc; SinkFail { call: 2, wrote: 4 }]?;
+    let mut out = MemorySink::new(alloc, 1024, fails)?;
+    let mut err = MemorySink::new(alloc, 1024, Vec::new(alloc))?;
+    let outcome = run(alloc, words.as_slice(), &mut shelf, &mut out, &mut err);
+    assert_eq!(rt; outcome.status, 5);
+    assert_eq!(rt; out.bytes(), b"order 1 1 1 rested\norde".as_slice());
+    assert_eq!(rt; err.bytes(), b"hm: write\n".as_slice());
+    Ok(())
+}
