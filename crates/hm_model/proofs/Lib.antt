@@ -1,0 +1,11 @@
+pub mod StoreFacts
+pub mod EffectFacts
+pub mod WellMade
+pub mod HistoryFacts
+pub mod Openings
+pub mod SightFacts
+pub mod Entering
+pub mod ReadingBack
+pub mod Nodes
+pub mod BuildingFacts
+pub mod CallFacts

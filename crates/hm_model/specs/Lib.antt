@@ -1,0 +1,9 @@
+pub mod Store
+pub mod Effect
+pub mod History
+pub mod Lawful
+pub mod Sight
+pub mod Calls
+pub mod Tending
+pub mod Building
+pub mod Reading
