@@ -1,0 +1,4 @@
+pub mod Digits
+pub mod Numbering
+pub mod Stages
+pub mod Turns

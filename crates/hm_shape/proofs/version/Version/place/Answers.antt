@@ -1,0 +1,9 @@
+-- The parts of a version are its place, and it has no other.
+use Rattle.hm_shape.proofs.Numbering.{IsAt-parts, place_of-at}
+use Rattle.hm_shape.proofs.version.Version.place.Goals as goal
+
+pub returns-clause-there : goal.returns-clause-there
+returns-clause-there c = IsAt-parts c.args.shape c.args.self.now c.requires
+
+pub returns-clause-only : goal.returns-clause-only
+returns-clause-only c = place_of-at c.args.shape c.args.self.now
