@@ -1,7 +1,7 @@
 -- The entries that a heap begins with stand one after another, from the empty store on.
 use Rattle.std.proofs.Common.{◌≡◌, ◌≢◌, ℕ, ◌+◌, cond, Option, Some, None, is_some, IfSome, All, List, [], ◌∷◌, ◌++◌, length, replicate, refl, sym, ap, ◌∙◌, arith, suc, append-nil}
 use Rattle.std.proofs.lemmas.Bool.{ne_eqb}
-use Rattle.std.proofs.lemmas.List.Sums.{sum_by-cons}
+use Rattle.std.proofs.lemmas.List.Sums.{sum_by-cons, sum_by-append}
 use Rattle.std.proofs.lemmas.List.Elements.{All-nil, All-cons, All-head, All-tail, All-replicate}
 use Rattle.hm_model.specs.declared.object.Name.{Name}
 use Rattle.hm_model.specs.declared.object.Start.{Start}
@@ -58,6 +58,31 @@ side_count-some : (numbers : Numbers) (sides : List (Option Numbers))
     → side_count (Some numbers ∷ sides) ≡ 1 + side_count sides
 side_count-some numbers sides =
     sum_by-cons (λ (side : Option (List ℕ)). cond (is_some side) 1 0) (Some numbers) sides
+
+-- side objects in two lists are as many as in both
+pub side_count-append : (xs ys : List (Option Numbers)) → side_count (xs ++ ys) ≡ side_count xs + side_count ys
+side_count-append xs ys = sum_by-append (λ (side : Option Numbers). cond (is_some side) 1 0) xs ys
+
+-- the entries of side objects in two lists
+pub side_entries-append : (k : ℕ) (xs ys : List (Option Numbers))
+    → side_entries k (xs ++ ys) ≡ side_entries k xs ++ side_entries (k + side_count xs) ys
+side_entries-append k [] ys = ap (λ (j : ℕ). side_entries j ys) (omega arith)
+side_entries-append k (None ∷ xs) ys = side_entries-append k xs ys
+side_entries-append k (Some numbers ∷ xs) ys =
+    let more : k + 1 + side_count xs ≡ k + side_count (Some numbers ∷ xs) = omega (arith, side_count-some numbers xs) in
+    let e : Entry = Create 0 (starting_name k) (replicate 4 None) numbers in
+    ap (λ (l : List Entry). e ∷ l) (side_entries-append (k + 1) xs ys)
+    ∙ ap (λ (j : ℕ). e ∷ (side_entries (k + 1) xs ++ side_entries j ys)) more
+
+-- the names of side objects in two lists
+pub side_names-append : (k : ℕ) (xs ys : List (Option Numbers))
+    → side_names k (xs ++ ys) ≡ side_names k xs ++ side_names (k + side_count xs) ys
+side_names-append k [] ys = ap (λ (j : ℕ). side_names j ys) (omega arith)
+side_names-append k (None ∷ xs) ys = ap (λ (l : Refs). None ∷ l) (side_names-append k xs ys)
+side_names-append k (Some numbers ∷ xs) ys =
+    let more : k + 1 + side_count xs ≡ k + side_count (Some numbers ∷ xs) = omega (arith, side_count-some numbers xs) in
+    ap (λ (l : Refs). Some (starting_name k) ∷ l) (side_names-append (k + 1) xs ys)
+    ∙ ap (λ (j : ℕ). Some (starting_name k) ∷ (side_names (k + 1) xs ++ side_names j ys)) more
 
 -- they make as many objects as are given
 sides_made : (s : PlainStore) (k : ℕ) (sides : List (Option Numbers)) → made_count 0 s ≡ k

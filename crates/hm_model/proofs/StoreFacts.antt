@@ -50,6 +50,13 @@ contents_of-push_split [] p n x h =
     (λ (no' : is_same p.0 n ≡ false). absurd (grind (arith, no'))) (cases_Bool (is_same p.0 n))
 contents_of-push_split (q ∷ s) p n x h = grind (arith, contents_of-push_split s p n x)
 
+-- and is no other's
+pub contents_of-push_other : (s : PlainStore) (p : Name × Contents) (n : Name) → p.0 ≢ n
+    → contents_of (s ++ p ∷ []) n ≡ contents_of s n
+contents_of-push_other [] p n ne = rw (is_same-other p.0 n ne) refl
+contents_of-push_other (q ∷ s) p n ne =
+    ap (λ (o : Option Contents). if is_same q.0 n then Some q.1 else o) (contents_of-push_other s p n ne)
+
 -- a change of one object is none of another
 pub contents_of-changed_other : (f : Contents → Contents) (m n : Name) (s : PlainStore) → m ≢ n
     → contents_of (with_changed f m s) n ≡ contents_of s n

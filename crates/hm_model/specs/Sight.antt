@@ -109,7 +109,8 @@ module _ {U : Type 0} where
     pub below : (k : ℕ) → k < hand → name_at d.roots k ≡ name_at c.roots k
     pub above : (k : ℕ) → hand + 4 ≤ k → name_at d.roots k ≡ name_at c.roots k
 
-  module _ (lawful : U → PlainStore → Type 0) (allowed : U → PlainStore → Entry → Type 0) where
+  module _ (lawful : U → PlainStore → Type 0)
+      (allowed : U → PlainStore → Entry → Type 0) where
     -- what a caller has seen is a lawful history, and its own entries are its calls in it
     pub record HasHistory (c : Sight U) : Type 0 where
       pub history : IsLawful (lawful c.usage) (allowed c.usage) c.start c.seen

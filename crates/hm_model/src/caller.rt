@@ -1,6 +1,6 @@
 //! The calls of a caller.
-ghost use Rattle.std.specs.Prelude.{◌≡◌, ◌≢◌, ◌<◌, ◌+◌, ◌≤◌, ◌↔◌, IsTrue, IsSome, IfSome, None};
-ghost use Rattle.std.specs.Prelude.{IsErr, IfErr, OnOk, OnErr, Err};
+ghost use Rattle.std.specs.Prelude.{◌≡◌, ◌≢◌, ◌<◌, ◌+◌, ◌≤◌, ◌↔◌};
+ghost use Rattle.std.specs.Prelude.{IsTrue, IsSome, IfSome, None, IsErr, IfErr, OnOk, OnErr, Err};
 
 use crate::root::{Full, Root, Snapshot, StoreIfRefused};
 use crate::usage::Usage;

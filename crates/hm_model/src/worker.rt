@@ -43,7 +43,7 @@ pub trait Worker<U: Usage>: Caller<U> {
         ensures to_go { ComesNearer result (Self.sight self.old).to_go (Self.sight self.new).to_go }
         ensures same { KeepsNames (Self.sight self.old) (Self.sight self.new) };
 
-    /// How many places of the region that it gives versions out of are used.
+    /// How many places are used of its To region, the to-space that it gives versions out of.
     fn used(&self) -> u32
         ensures { result ≡ (Self.sight self.now).used };
 
