@@ -1,0 +1,110 @@
+-- What is enabled by what a caller has seen and knows is lawful by the whole history.
+use Rattle.std.proofs.Common.{ℕ, get_or, List, Option, Some, None, IfSome, sym, subst}
+use Rattle.hm_model.specs.declared.object.Name.{Name}
+use Rattle.hm_model.specs.declared.object.Contents.{Contents}
+use Rattle.hm_model.specs.declared.object.Field.{Field}
+use Rattle.hm_model.specs.declared.object.Field.TheVariants.{Number, Refer}
+use Rattle.hm_model.specs.declared.entry.Tried.TheVariants.{Stored, Changed}
+use Rattle.hm_model.specs.declared.entry.Entry.{Entry}
+use Rattle.hm_model.specs.declared.entry.Entry.TheVariants.{Create, Fetch, Store, StoreIf}
+use Rattle.hm_model.specs.Store.{PlainStore, IsThere}
+use Rattle.hm_model.specs.Effect.{Stands}
+use Rattle.hm_model.specs.History.{store_of}
+use Rattle.hm_core.specs.declared.part.Known.{Known}
+use Rattle.hm_core.specs.declared.part.Part.{Part}
+use Rattle.hm_core.specs.declared.part.View.{View}
+use Rattle.hm_core.specs.declared.part.Site.{Site}
+use Rattle.hm_core.specs.declared.moving.Act.{Act}
+use Rattle.hm_core.specs.declared.moving.Act.TheVariants.{LoadStamp, LoadReference, LoadNumber, LoadLink, StoreOwn, Publish, LinkStore}
+use Rattle.hm_core.specs.declared.moving.Move.{Move}
+use Rattle.hm_core.specs.Moving.{AreKnown, IsKnownField, IsGiven, IsKnownName, Reads, Turns, IsFirst, MayTake, MayMake, Enabled, IsLawfulMove}
+use Rattle.hm_core.specs.Good.{Core, Good, Carries}
+use Rattle.hm_core.proofs.Histories.{come_now}
+use Rattle.hm_core.proofs.Heaps.{known_there}
+
+-- what is known by one reading is known by a wider one
+module _ (known wider : Name → Type 0) (f : (n : Name) → known n → wider n) where
+  one_wider : (r : Option Name) → IfSome r known → IfSome r wider
+  one_wider None h = tt
+  one_wider (Some n) h = f n h
+
+  refs_wider : (refs : List (Option Name)) → AreKnown known refs → AreKnown wider refs
+  refs_wider refs h k d low = one_wider (get_or refs k d) (h k d low)
+
+  field_wider : (field : Field) → IsKnownField known field → IsKnownField wider field
+  field_wider (Number i value) h = h
+  field_wider (Refer i value) h = (h.0, one_wider value h.1)
+
+  given_wider : (refs : List (Option Name)) (numbers : List ℕ) → IsGiven known refs numbers
+      → IsGiven wider refs numbers
+  given_wider refs numbers h = record { names = refs_wider refs h.names; sized = h.sized }
+
+  module _ {U : Type 0} (p : Part U) where
+    reads_wider : (k : Known) (e : Entry) → Reads known p k e → Reads wider p k e
+    reads_wider k (Create q n refs numbers) h = h
+    reads_wider k (Fetch q n answer) h = h
+    reads_wider k (Store q n field) h = h
+    reads_wider k (StoreIf q n stamp refs numbers Stored) h = h
+    reads_wider k (StoreIf q n stamp refs numbers (Changed now)) h =
+        (h.0, given_wider refs numbers h.1, h.2, h.3)
+
+    turns_wider : (k : Known) (x : Contents) (e : Entry) → Turns known p k x e → Turns wider p k x e
+    turns_wider k x (Create q n refs numbers) h = h
+    turns_wider k x (Fetch q n answer) h = h
+    turns_wider k x (Store q n field) h = (h.0, field_wider field h.1, h.2)
+    turns_wider k x (StoreIf q n stamp refs numbers Stored) h = (h.0, given_wider refs numbers h.1, h.2, h.3)
+    turns_wider k x (StoreIf q n stamp refs numbers (Changed now)) h = h
+
+    first_wider : (k : Known) → IsFirst known p k → IsFirst wider p k
+    first_wider k h = record {
+      room = h.room;
+      version = h.version;
+      name = h.name;
+      rank = h.rank;
+      stamp = h.stamp;
+      names = refs_wider k.contents.refs h.names;
+      built = h.built;
+    }
+
+    module _ (make may : Entry → Type 0) (g : (e : Entry) → make e → may e) where
+      take_wider : (act : Act) → MayTake known make p act → MayTake wider may p act
+      take_wider (LoadStamp at) h = h
+      take_wider (LoadReference at i) h = h
+      take_wider (LoadNumber at i) h = h
+      take_wider (LoadLink at None) h = (h.0, tt)
+      take_wider (LoadLink at (Some e)) h = (h.0, (reads_wider at e h.1.0, g e h.1.1))
+      take_wider (StoreOwn i word) h = h
+      take_wider (Publish k) h = (first_wider k h.0, g (Create p.number k.name k.contents.refs k.contents.numbers) h.1)
+      take_wider (LinkStore at k e) h = record {
+        look = h.look;
+        later = h.later;
+        turns = turns_wider at k.contents e h.turns;
+        may = g e h.may;
+      }
+
+module _ {U : Type 0} (lawful : U → PlainStore → Type 0) (allowed : U → PlainStore → Entry → Type 0) where
+  own_lawful : (c : Core U) (id place : ℕ) (v : View U) (p : Part U) (m : Move)
+      → Good lawful allowed p.site c → Carries c.views id place v p → Enabled lawful allowed v.seen p m
+      → IsLawfulMove lawful allowed c.heap.history p m
+  own_lawful c id place v p m good at may =
+      let mine = good.parts id place v p at in
+      let store : PlainStore = store_of c.heap.history in
+      let make : Entry → Type 0 = MayMake (lawful p.site.usage) (allowed p.site.usage) v.seen p.number in
+      let now : Entry → Type 0 = λ e. Stands store e → allowed p.site.usage store e in
+      let g : (e : Entry) → make e → now e = λ e made stands.
+      (come_now (lawful p.site.usage) (allowed p.site.usage) p.site.start p.number p.mine c.heap.history v.seen e
+      (good.seen id v at.seat) mine.calls good.heap.history made stands).entry in
+      record {
+        act = take_wider (IsKnownName p) (IsThere store)
+            (known_there lawful allowed c.heap v.seen p good.heap mine) p make now g m.act may.act;
+        holds = may.holds;
+        let_go = may.let_go;
+      }
+
+  -- an enabled move is a lawful one
+  pub enabled_lawful : (g : Site U) (c : Core U) (id place : ℕ) (v : View U) (p : Part U) (m : Move)
+      → Good lawful allowed g c → Carries c.views id place v p → Enabled lawful allowed v.seen p m
+      → IsLawfulMove lawful allowed c.heap.history p m
+  enabled_lawful g c id place v p m good at may =
+      own_lawful c id place v p m
+      (subst (λ (z : Site U). Good lawful allowed z c) (sym (good.parts id place v p at).site) good) at may

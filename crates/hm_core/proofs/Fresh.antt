@@ -1,0 +1,370 @@
+-- A fresh machine is good.
+use Rattle.std.proofs.Common.{◌≡◌, ◌≢◌, ◌<◌, ◌≤◌, ◌+◌, ◌*◌, ◌==◌, ℕ, zero, suc, Bool, true, false, cond, is_some, eqb, eq-eqb, ne_eqb, List, [], ◌∷◌, ◌++◌, map, length, replicate, All, Option, Some, None, IfSome, Contains, if◌then◌else◌, refl, sym, ap, ◌∙◌, subst, arith, ⊎_elim, append-nil, append_assoc, suc-mul}
+use Rattle.std.specs.Prelude.{slice_get}
+use Rattle.std.proofs.lemmas.Nat.{mul-lt}
+use Rattle.std.proofs.lemmas.Option.{get_or_from_slice_get, slice_get_past, slice_get_within, slice_get-get_or}
+use Rattle.std.proofs.lemmas.List.Sums.{sum_by-cons}
+use Rattle.std.proofs.lemmas.List.Elements.{All-nil, All-cons, All-head, All-tail}
+use native.Mathlib.Decide.{ℕ_discrete}
+use mathlib.Core.Logic.{dite}
+use Rattle.hm_shape.specs.declared.shape.Shape.{Shape}
+use Rattle.hm_shape.specs.declared.version.Version.{Version}
+use Rattle.hm_shape.specs.Versions.{IsAt}
+use Rattle.hm_shape.specs.Words.{word_count}
+use Rattle.hm_model.specs.declared.object.Name.{Name}
+use Rattle.hm_model.specs.declared.object.Contents.{Contents}
+use Rattle.hm_model.specs.declared.object.Start.{Start}
+use Rattle.hm_model.specs.declared.entry.Entry.{Entry}
+use Rattle.hm_model.specs.declared.entry.Entry.TheVariants.{Create}
+use Rattle.hm_model.specs.Store.{Numbers, IsSized, PlainStore, contents_of}
+use Rattle.hm_model.specs.Effect.{caller_of, new_contents, effect_of}
+use Rattle.hm_model.specs.History.{store_after, store_of, common_name, opening_of, side_count, side_entries, side_names, starting_count, starting_name, IsSizedStart}
+use Rattle.hm_model.proofs.StoreFacts.{is_same-self, is_same-other}
+use Rattle.hm_model.proofs.EffectFacts.{there_contents}
+use Rattle.hm_model.proofs.HistoryFacts.{store_after-append}
+use Rattle.hm_model.proofs.Openings.{lawful_opening}
+use Rattle.hm_core.specs.declared.part.Known.{Known}
+use Rattle.hm_core.specs.declared.part.Site.{Site}
+use Rattle.hm_core.specs.Chain.{Index, Heap, IsPublished, AreTrue, AreChained, ArePlaced, IsLinked, link_of, row_count, total}
+use Rattle.hm_core.specs.Good.{Begins, AreBelow, HeapIsGood, PartIsGood, Core, Good}
+use Rattle.hm_core.specs.Fresh.{starting_known, side_known, common_known, all_known, fresh_index, fresh_used, fresh_part, IsFreshCore}
+use Rattle.hm_core.proofs.Histories.{below-append, begins_self}
+use Rattle.hm_core.proofs.Placed.{published_once, place_small, same_row}
+use Rattle.hm_core.proofs.Held.{none_written, contains_first}
+
+-- versions are numbered from k on, each the first of its object
+record IsNumbered (k : ℕ) (m : Known) : Type 0 where
+  is : m ≡ starting_known k m.contents
+  stamp : m.contents.stamp ≡ 0
+  sized : IsSized m.contents.refs m.contents.numbers
+
+abbrev AreNumbered : ℕ → List Known → Type 0
+AreNumbered k [] = Unit {0}
+AreNumbered k (m ∷ ms) = IsNumbered k m × AreNumbered (k + 1) ms
+
+-- what the store has of them
+abbrev stored : List Known → PlainStore
+stored ms = map (λ m. (m.name, m.contents)) ms
+
+numbered_append : (k : ℕ) (xs ys : List Known) → AreNumbered k xs → AreNumbered (k + length xs) ys
+    → AreNumbered k (xs ++ ys)
+numbered_append k [] ys h e = subst (λ (i : ℕ). AreNumbered i ys) (omega arith) e
+numbered_append k (x ∷ xs) ys h e =
+    let at : k + length (x ∷ xs) ≡ (k + 1) + length xs = omega arith in
+    (h.0, numbered_append (k + 1) xs ys h.1 (subst (λ (i : ℕ). AreNumbered i ys) at e))
+
+numbered_at : (k : ℕ) (ms : List Known) (i : ℕ) (m : Known) → AreNumbered k ms → slice_get ms i ≡ Some m
+    → IsNumbered (k + i) m
+numbered_at k [] i m h e = absurd (cc)
+numbered_at k (x ∷ xs) zero m h e =
+    let is : x ≡ m = cc in
+    let at : k ≡ k + 0 = omega arith in
+    subst (λ (j : ℕ). IsNumbered j m) at (subst (IsNumbered k) is h.0)
+numbered_at k (x ∷ xs) (suc i) m h e =
+    let at : (k + 1) + i ≡ k + suc i = omega arith in
+    subst (λ (j : ℕ). IsNumbered j m) at (numbered_at (k + 1) xs i m h.1 e)
+
+-- the store has each under its name
+stored_at : (k : ℕ) (ms : List Known) (i : ℕ) (m : Known) → AreNumbered k ms → slice_get ms i ≡ Some m
+    → contents_of (stored ms) m.name ≡ Some m.contents
+stored_at k [] i m h e = absurd (cc)
+stored_at k (x ∷ xs) zero m h e =
+    let is : x ≡ m = cc in
+    subst (λ (z : Known). contents_of (stored (x ∷ xs)) z.name ≡ Some z.contents) is
+    (rw (is_same-self x.name) refl)
+stored_at k (x ∷ xs) (suc i) m h e =
+    let this = numbered_at (k + 1) xs i m h.1 e in
+    let first : x.name.count ≡ k = ap (λ (z : Known). z.name.count) h.0.is in
+    let second : m.name.count ≡ (k + 1) + i = ap (λ (z : Known). z.name.count) this.is in
+    let apart : x.name ≢ m.name = λ z. let same = ap (λ (n : Name). n.count) z in omega arith in
+    rw (is_same-other x.name m.name apart) (stored_at (k + 1) xs i m h.1 e)
+
+sides_numbered : (k : ℕ) (sides : List (Option Numbers)) → All (λ side. IfSome side (λ numbers. length numbers ≡ 10)) sides
+    → AreNumbered k (side_known k sides)
+sides_numbered k [] h = tt
+sides_numbered k (None ∷ sides) h =
+    sides_numbered k sides (All-tail (λ (side : Option Numbers). IfSome side (λ numbers. length numbers ≡ 10)) None sides h)
+sides_numbered k (Some numbers ∷ sides) h = (
+  record {
+    is = refl;
+    stamp = refl;
+    sized = record {
+      four = refl;
+      ten = All-head (λ (side : Option Numbers). IfSome side (λ numbers. length numbers ≡ 10)) (Some numbers) sides h;
+    };
+  },
+  sides_numbered (k + 1) sides
+      (All-tail (λ (side : Option Numbers). IfSome side (λ numbers. length numbers ≡ 10)) (Some numbers) sides h),
+)
+
+side_count-some : (numbers : Numbers) (sides : List (Option Numbers))
+    → side_count (Some numbers ∷ sides) ≡ 1 + side_count sides
+side_count-some numbers sides =
+    sum_by-cons (λ (side : Option (List ℕ)). cond (is_some side) 1 0) (Some numbers) sides
+
+sides_length : (k : ℕ) (sides : List (Option Numbers)) → length (side_known k sides) ≡ side_count sides
+sides_length k [] = refl
+sides_length k (None ∷ sides) = sides_length k sides
+sides_length k (Some numbers ∷ sides) =
+    let one = side_count-some numbers sides in let rest = sides_length (k + 1) sides in omega arith
+
+names_length : (k : ℕ) (sides : List (Option Numbers)) → length (side_names k sides) ≡ length sides
+names_length k [] = refl
+names_length k (None ∷ sides) = ap suc (names_length k sides)
+names_length k (Some numbers ∷ sides) = ap suc (names_length (k + 1) sides)
+
+sides_stored : (s : PlainStore) (k : ℕ) (sides : List (Option Numbers))
+    → store_after s (side_entries k sides) ≡ s ++ stored (side_known k sides)
+sides_stored s k [] = sym (append-nil s)
+sides_stored s k (None ∷ sides) = sides_stored s k sides
+sides_stored s k (Some numbers ∷ sides) =
+    let p : Name × Contents = (starting_name k, new_contents (replicate 4 None) numbers) in
+    sides_stored (s ++ p ∷ []) (k + 1) sides ∙ append_assoc s (p ∷ []) (stored (side_known (k + 1) sides))
+
+stored_push : (xs : List Known) (m : Known) → stored (xs ++ m ∷ []) ≡ stored xs ++ (m.name, m.contents) ∷ []
+stored_push [] m = refl
+stored_push (x ∷ xs) m = ap (λ (l : PlainStore). (x.name, x.contents) ∷ l) (stored_push xs m)
+
+slice_get_contains : (xs : List Known) (i : ℕ) (m : Known) → slice_get xs i ≡ Some m → Contains xs m
+slice_get_contains xs i m h = (i, slice_get_within xs i m h, get_or_from_slice_get xs i m m h)
+
+push_length : (xs : List Known) (m : Known) → length (xs ++ m ∷ []) ≡ length xs + 1
+push_length [] m = refl
+push_length (x ∷ xs) m = let rest = push_length xs m in omega arith
+
+get_last : (xs : List Known) (m : Known) → slice_get (xs ++ m ∷ []) (length xs) ≡ Some m
+get_last [] m = refl
+get_last (x ∷ xs) m = get_last xs m
+
+module _ (start : Start) (sized : IsSizedStart start) where
+  numbered : AreNumbered 0 (all_known start)
+  numbered = numbered_append 0 (side_known 0 start.sides) (common_known start ∷ [])
+      (sides_numbered 0 start.sides sized.sides) (
+        record {
+          is = ap (λ (i : ℕ). starting_known i (common_known start).contents) (sym (let e = sides_length 0 start.sides in omega arith));
+          stamp = refl;
+          sized = record { four = names_length 0 start.sides ∙ sized.four; ten = sized.numbers };
+        },
+        tt,
+      )
+
+  many : length (all_known start) ≡ starting_count start
+  many =
+      let a = push_length (side_known 0 start.sides) (common_known start) in
+      let b = sides_length 0 start.sides in omega arith
+
+  -- the store has just these
+  store_is : store_of (opening_of start) ≡ stored (all_known start)
+  store_is =
+      let e : Entry = Create 0 (common_name start) (side_names 0 start.sides) start.numbers in
+      store_after-append [] (side_entries 0 start.sides) (e ∷ [])
+      ∙ (ap (λ (s : PlainStore). effect_of s e) (sides_stored [] 0 start.sides)
+      ∙ sym (stored_push (side_known 0 start.sides) (common_known start)))
+
+  known_at : (k : Known) → IsPublished (fresh_index start) k → IsNumbered k.version.0 k
+  known_at k there = let at : 0 + k.version.0 ≡ k.version.0 = omega arith in
+      subst (λ (j : ℕ). IsNumbered j k) at (numbered_at 0 (all_known start) k.version.0 k numbered there)
+
+  present : (k : Known) → IsPublished (fresh_index start) k
+      → contents_of (store_of (opening_of start)) k.name ≡ Some k.contents
+  present k there = ap (λ (s : PlainStore). contents_of s k.name) store_is
+      ∙ stored_at 0 (all_known start) k.version.0 k numbered there
+
+  common_published : IsPublished (fresh_index start) (common_known start)
+  common_published =
+      ap (slice_get (all_known start)) (sym (sides_length 0 start.sides))
+      ∙ get_last (side_known 0 start.sides) (common_known start)
+
+  listed_published : (k : Known) → Contains (all_known start) k → IsPublished (fresh_index start) k
+  listed_published k there =
+      let here : slice_get (all_known start) there.0 ≡ Some k =
+      slice_get-get_or (all_known start) there.0 k there.1 ∙ ap (λ (z : Known). Some z) there.2 in
+      let at = (numbered_at 0 (all_known start) there.0 k numbered here).is in
+      let number : k.version.0 ≡ there.0 = ap (λ (z : Known). z.version.0) at ∙ omega arith in
+      ap (slice_get (all_known start)) number ∙ here
+
+  -- the first row has all versions, and any other none
+  used_first : (row : ℕ) → row ≡ 0 → fresh_used start row ≡ starting_count start
+  used_first row e = rw (eq-eqb row 0 e) refl
+
+  used_other : (row : ℕ) → row ≢ 0 → fresh_used start row ≡ 0
+  used_other row ne = rw (ne_eqb row 0 ne) refl
+
+  total_some : (n : ℕ) → 0 < n → 0 < total (fresh_used start) n
+  total_some zero h = absurd (omega arith)
+  total_some (suc n) h = dite (ℕ_discrete n 0)
+      (λ e. let one = used_first n e in omega arith)
+      (λ ne. let more = total_some n (omega arith) in omega arith)
+
+  -- the versions lie in the first row
+  module _ (s : Shape) (room : starting_count start ≤ s.versions) where
+    rows : 0 < row_count s
+    rows = mul-lt 0 0 s.callers s.regions (omega (arith, s.callers_fit)) (omega (arith, s.regions_fit))
+
+    placed : ArePlaced s (fresh_index start) (fresh_used start)
+    placed = record {
+      fits = λ k there.
+          let low = slice_get_within (all_known start) k.version.0 k there in
+          let long = many in
+          let small = place_small 0 (row_count s) s.versions k.version.0 rows (omega arith) in omega arith;
+      unused = λ row i below low past. slice_get_past (all_known start) (row * s.versions + i) (dite (ℕ_discrete row 0)
+          (λ e. let one = used_first row e in let long = many in
+          let at : row * s.versions ≡ 0 * s.versions = ap (λ (r : ℕ). r * s.versions) e in omega arith)
+          (λ ne. let long = many in
+          let more : s.versions ≤ row * s.versions = row_more row ne in omega arith));
+      filled = λ row. dite (ℕ_discrete row 0)
+          (λ e. let one = used_first row e in omega arith)
+          (λ ne. let none = used_other row ne in omega arith);
+      ranks = λ k there.
+          let is : k.rank ≡ 0 = ap (λ (z : Known). z.rank) (known_at k there).is in
+          let more = total_some (row_count s) rows in omega arith;
+      sized = λ k there. let h = known_at k there in
+          let stamp = h.stamp in record { stamp = omega arith; contents = h.sized };
+    }
+      where
+        row_more : (row : ℕ) → row ≢ 0 → s.versions ≤ row * s.versions
+        row_more zero ne = absurd (ne refl)
+        row_more (suc row) ne = omega (arith, suc-mul row s.versions)
+
+    -- each is the last of its object, with the present contents
+    chained : (words : List ℕ) → ((k : Known) → IsPublished (fresh_index start) k → link_of s words k ≡ 0)
+        → AreChained s words (fresh_index start) (store_of (opening_of start))
+    chained words links = record {
+      there = λ k is. there_contents (store_of (opening_of start)) k.name k.contents (present k is);
+      link = λ k is. subst (IsLinked (fresh_index start) (store_of (opening_of start)) k) (sym (links k is))
+          (present k is);
+      top = λ k m a b same zero_link.
+          let first : k.rank ≡ 0 = ap (λ (z : Known). z.rank) (known_at k a).is in
+          let second : m.rank ≡ 0 = ap (λ (z : Known). z.rank) (known_at m b).is in omega arith;
+      apart = λ k m a b same rank.
+          let first : k.name.count ≡ k.version.0 = ap (λ (z : Known). z.name.count) (known_at k a).is in
+          let second : m.name.count ≡ m.version.0 = ap (λ (z : Known). z.name.count) (known_at m b).is in
+          let count : m.name.count ≡ k.name.count = ap (λ (n : Name). n.count) same in
+          published_once (fresh_index start) k m a b (omega arith);
+    }
+
+sides_below : (n k : ℕ) (sides : List (Option Numbers)) → 0 < n → AreBelow n (side_entries k sides)
+sides_below n k [] low = All-nil (λ e. caller_of e < n)
+sides_below n k (None ∷ sides) low = sides_below n k sides low
+sides_below n k (Some numbers ∷ sides) low =
+    All-cons (λ e. caller_of e < n) (Create 0 (starting_name k) (replicate 4 None) numbers)
+    (side_entries (k + 1) sides) low (sides_below n (k + 1) sides low)
+
+opening_below : (n : ℕ) (start : Start) → 0 < n → AreBelow n (opening_of start)
+opening_below n start low =
+    let e : Entry = Create 0 (common_name start) (side_names 0 start.sides) start.numbers in
+    below-append n (side_entries 0 start.sides) (e ∷ []) (sides_below n 0 start.sides low)
+    (All-cons (λ e. caller_of e < n) e [] low (All-nil (λ e. caller_of e < n)))
+
+module _ {U : Type 0} (lawful : U → PlainStore → Type 0) (allowed : U → PlainStore → Entry → Type 0) (g : Site U)
+    (sized : IsSizedStart g.start) (room : starting_count g.start ≤ g.shape.versions) where
+  module _ (words : List ℕ) (wide : length words ≡ word_count g.shape)
+      (contents : AreTrue g.shape words (fresh_index g.start))
+      (links : (k : Known) → IsPublished (fresh_index g.start) k → link_of g.shape words k ≡ 0) where
+    abbrev heap : Heap
+    heap = record {
+      words = words;
+      index = fresh_index g.start;
+      used = fresh_used g.start;
+      history = opening_of g.start;
+    }
+
+    heap_good : lawful g.usage (store_of (opening_of g.start)) → HeapIsGood lawful allowed g heap
+    heap_good now = record {
+      wide = wide;
+      placed = placed g.start sized g.shape room;
+      contents = contents;
+      chained = chained g.start sized g.shape room words links;
+      history = lawful_opening (lawful g.usage) (allowed g.usage) g.start sized now;
+      callers = opening_below g.shape.callers g.start (omega (arith, g.shape.callers_fit));
+    }
+
+    row_used : (q : ℕ) → (if q == 0 then starting_count g.start else 0) ≡ fresh_used g.start (q * g.shape.regions + 0)
+    row_used q = dite (ℕ_discrete q 0)
+        (λ e. rw (eq-eqb q 0 e) (sym (used_first g.start sized (q * g.shape.regions + 0)
+        (let at : q * g.shape.regions ≡ 0 * g.shape.regions = ap (λ (r : ℕ). r * g.shape.regions) e in omega arith))))
+        (λ ne. rw (ne_eqb q 0 ne) (sym (used_other g.start sized (q * g.shape.regions + 0)
+        (λ z. let more = mul-lt 0 0 q g.shape.regions (omega arith) (omega (arith, g.shape.regions_fit)) in
+        omega arith))))
+
+    published_good : (q : ℕ) (k : Known) → Contains (if q == 0 then all_known g.start else []) k
+        → IsPublished (fresh_index g.start) k
+    published_good q k there = go (eqb q 0) there
+      where
+        go : (t : Bool) → Contains (if t then all_known g.start else []) k → IsPublished (fresh_index g.start) k
+        go true c = listed_published g.start sized k c
+        go false c = let low = c.1 in absurd (omega arith)
+
+    -- a version of another row than the first is not there
+    first_row : (q region place : ℕ) (k : Known) → IsPublished (fresh_index g.start) k
+        → IsAt g.shape k.version q region place → q ≢ 0 → ⊥
+    first_row q region place k there at ne =
+        let low = slice_get_within (all_known g.start) k.version.0 k there in
+        let long = many g.start sized in
+        let number : k.version.0 ≡ (q * g.shape.regions + region) * g.shape.versions + place =
+        ap (λ (v : Version). v.0) at.number in
+        let row : 0 < q * g.shape.regions =
+        mul-lt 0 0 q g.shape.regions (omega arith) (omega (arith, g.shape.regions_fit)) in
+        let same : 0 * g.shape.versions + k.version.0 ≡ (q * g.shape.regions + region) * g.shape.versions + place =
+        omega arith in
+        let zero_row : 0 ≡ q * g.shape.regions + region =
+        same_row 0 (q * g.shape.regions + region) g.shape.versions k.version.0 place (omega arith) at.place_fits same in
+        omega arith
+
+    own_good : (q : ℕ) (k : Known) (region place : ℕ) → IsPublished (fresh_index g.start) k
+        → IsAt g.shape k.version q region place → Contains (if q == 0 then all_known g.start else []) k
+    own_good q k region place there at = dite (ℕ_discrete q 0)
+        (λ e. rw (eq-eqb q 0 e) (slice_get_contains (all_known g.start) k.version.0 k there))
+        (λ ne. absurd (first_row q region place k there at ne))
+
+    part_good : (q : ℕ) → q < g.shape.callers → PartIsGood g heap (opening_of g.start) (fresh_part g q)
+    part_good q low = record {
+      site = refl;
+      number = low;
+      draft = record {
+        region = omega (arith, g.shape.regions_fit);
+        used = row_used q;
+        wide = refl;
+        written = λ left j w is. absurd (none_written j w is);
+        named = λ j w n is. absurd (none_written j w is);
+      };
+      hands = record {
+        held = λ k there. ⊎_elim
+            (λ (e : common_known g.start ≡ k).
+            subst (IsPublished (fresh_index g.start)) e (common_published g.start sized))
+            (λ (c : Contains [] k). let none = c.1 in absurd (omega arith))
+            (contains_first k (common_known g.start) [] there);
+        published = published_good q;
+        own = own_good q;
+      };
+      calls = record { all = refl; seen = refl; opened = begins_self (opening_of g.start) };
+    }
+
+  -- a fresh machine is good
+  pub good_fresh : (c : Core U) → IsFreshCore g c → lawful g.usage (store_of (opening_of g.start))
+      → Good lawful allowed g c
+  good_fresh c fresh now =
+      let words : List ℕ = c.heap.words in
+      let index = fresh.heap.index in
+      let contents : AreTrue g.shape words (fresh_index g.start) =
+      subst (AreTrue g.shape words) index fresh.heap.contents in
+      let links : (k : Known) → IsPublished (fresh_index g.start) k → link_of g.shape words k ≡ 0 =
+      subst (λ (i : Index). (k : Known) → IsPublished i k → link_of g.shape words k ≡ 0) index fresh.heap.links in
+      let same : heap words fresh.heap.wide contents links ≡ c.heap = λ i. record {
+        words = words;
+        index = sym index i;
+        used = sym fresh.heap.used i;
+        history = sym fresh.heap.history i;
+      } in
+      record {
+        heap = subst (HeapIsGood lawful allowed g) same (heap_good words fresh.heap.wide contents links now);
+        seen = λ j v there. subst (λ (l : List Entry). Begins l c.heap.history) (sym (fresh.seen j v there))
+            (subst (Begins (opening_of g.start)) (sym fresh.heap.history) (begins_self (opening_of g.start)));
+        parts = λ j k v p at.
+            let q = fresh.parts j k v p at in
+            subst (PartIsGood g c.heap v.seen) (sym q.1)
+            (subst (λ (l : List Entry). PartIsGood g c.heap l (fresh_part g p.number)) (sym (fresh.seen j v at.seat))
+            (subst (λ (h : Heap). PartIsGood g h (opening_of g.start) (fresh_part g p.number)) same
+            (part_good words fresh.heap.wide contents links p.number q.0)));
+        apart = fresh.apart;
+      }

@@ -1,0 +1,322 @@
+-- A move leaves a good heap.
+use Rattle.std.proofs.Common.{◌≡◌, ◌≢◌, ◌<◌, ◌+◌, ◌*◌, ℕ, zero, suc, List, [], ◌∷◌, ◌++◌, set, slice_index, slice_set, Option, Some, None, Contains, refl, sym, ap, ◌∙◌, subst, arith, inl, inr, ⊎_elim, append-nil, length-set}
+use Rattle.std.proofs.lemmas.List.{set-get_or}
+use Rattle.hm_shape.specs.declared.shape.Shape.{Shape}
+use Rattle.hm_shape.specs.declared.version.Version.{Version}
+use Rattle.hm_shape.specs.Versions.{IsVersionOf}
+use Rattle.hm_shape.specs.Words.{word_at, naming_word}
+use Rattle.hm_model.specs.declared.object.Name.{Name}
+use Rattle.hm_model.specs.declared.object.Contents.{Contents}
+use Rattle.hm_model.specs.declared.entry.Entry.{Entry}
+use Rattle.hm_model.specs.declared.entry.Entry.TheVariants.{Create}
+use Rattle.hm_model.specs.Store.{PlainStore, contents_of, IsThere, made_count}
+use Rattle.hm_model.specs.Effect.{CreateStands, Stands, caller_of, effect_of, new_contents}
+use Rattle.hm_model.specs.History.{store_of, create_count}
+use Rattle.hm_model.specs.Lawful.{IsLawful, UsageLaws}
+use Rattle.hm_model.proofs.StoreFacts.{contents_of-push, contents_of-push_new}
+use Rattle.hm_model.proofs.EffectFacts.{there_after}
+use Rattle.hm_model.proofs.HistoryFacts.{store_after-append, well_made_legal, made_count-legal}
+use Rattle.hm_model.proofs.WellMade.{fresh_name}
+use Rattle.hm_core.specs.declared.part.Known.{Known}
+use Rattle.hm_core.specs.declared.part.Part.{Part}
+use Rattle.hm_core.specs.declared.moving.Act.{Act}
+use Rattle.hm_core.specs.declared.moving.Act.TheVariants.{LoadStamp, LoadReference, LoadNumber, LoadLink, StoreOwn, Publish, LinkStore}
+use Rattle.hm_core.specs.Chain.{Heap, IsPublished, with_one, HasContents, Refers, IsLinked, AreChained, row_count, reference_at, link_of}
+use Rattle.hm_core.specs.Moving.{next_version, word_of, heap_after, row_of_part, used_with, Spells, IsWritten, IsBuilt, MayLookInto, IsKnownName, HasRoom, IsFirst, IsLater, Turns, MayTake}
+use Rattle.hm_core.specs.Good.{HeapIsGood, PartIsGood}
+use Rattle.hm_core.proofs.Histories.{below_more, lawful_with}
+use Rattle.hm_core.proofs.Placed.{place_small, placed_more, elsewhere, written_here, contents_same, true_more, not_the_one}
+use Rattle.hm_core.proofs.Chains.{chained_beside, chained_created, chained_hung}
+use Rattle.hm_core.proofs.Entries.{all_there, reads_stand, turns_stand}
+
+-- a word that becomes what it was
+pub same_word : (words : List ℕ) (w x : ℕ) → x ≡ slice_index words w → set words w x ≡ words
+same_word words w x e = ap (λ (y : ℕ). set words w y) e ∙ set-get_or words w 0
+
+module _ {U : Type 0} (h : Heap) (seen : List Entry) (p : Part U) (mine : PartIsGood p.site h seen p) where
+  abbrev shape : Shape
+  shape = p.site.shape
+
+  -- what a caller may look into is published
+  pub look_published : (k : Known) → MayLookInto p k → IsPublished h.index k
+  look_published k look = ⊎_elim (λ (c : Contains p.hands.held k). mine.hands.held k c)
+      (λ (c : Contains p.hands.published k). mine.hands.published k c) look
+
+  -- its region is one of the rows
+  pub row_below : row_of_part p < row_count shape
+  row_below = place_small p.number shape.callers shape.regions p.draft.region mine.number mine.draft.region
+
+  pub room_left : HasRoom p → h.used (row_of_part p) < shape.versions
+  room_left room = let a = mine.draft.used in omega arith
+
+  -- and its next version lies at the first place that is not used
+  pub next_at : (next_version p).0 ≡ row_of_part p * shape.versions + h.used (row_of_part p)
+  next_at = ap (λ (i : ℕ). row_of_part p * shape.versions + i) mine.draft.used
+
+module _ {U : Type 0} (lawful : U → PlainStore → Type 0) (allowed : U → PlainStore → Entry → Type 0)
+    (h : Heap) (seen : List Entry) (p : Part U) (good : HeapIsGood lawful allowed p.site h)
+    (mine : PartIsGood p.site h seen p) where
+  -- the next version is not published
+  pub next_none : HasRoom p → h.index (next_version p).0 ≡ None
+  next_none room = ap h.index (next_at h seen p mine)
+      ∙ good.placed.unused (row_of_part p) (h.used (row_of_part p)) (row_below h seen p mine)
+      (room_left h seen p mine room) (omega arith)
+
+  pub fresh_none : (k : Known) → HasRoom p → k.version ≡ next_version p → h.index k.version.0 ≡ None
+  fresh_none k room at = ap (λ (v : Version). h.index v.0) at ∙ next_none room
+
+  pub next_small : HasRoom p → IsVersionOf p.site.shape (next_version p)
+  next_small room =
+      let a = place_small (row_of_part p) (row_count p.site.shape) p.site.shape.versions (h.used (row_of_part p))
+      (row_below h seen p mine) (room_left h seen p mine room) in
+      let b = next_at h seen p mine in omega arith
+
+  -- an object that the caller knows is there
+  pub known_there : (n : Name) → IsKnownName p n → IsThere (store_of h.history) n
+  known_there n k =
+      subst (IsThere (store_of h.history)) k.2 (good.chained.there k.0 (look_published h seen p mine k.0 k.1))
+
+  -- the last version has the present contents
+  pub present_at : (at : Known) → MayLookInto p at → 0 ≡ link_of p.site.shape h.words at
+      → contents_of (store_of h.history) at.name ≡ Some at.contents
+  present_at at look zero_link = subst (IsLinked h.index (store_of h.history) at) (sym zero_link)
+      (good.chained.link at (look_published h seen p mine at look))
+
+module _ {U : Type 0} (lawful : U → PlainStore → Type 0) (allowed : U → PlainStore → Entry → Type 0)
+    (laws : (u : U) → UsageLaws (lawful u) (allowed u)) (h : Heap) (seen : List Entry) (p : Part U)
+    (good : HeapIsGood lawful allowed p.site h) (mine : PartIsGood p.site h seen p) where
+  abbrev store : PlainStore
+  store = store_of h.history
+
+  abbrev s : Shape
+  s = p.site.shape
+
+  abbrev Kept : Heap → Type 0
+  Kept t = HeapIsGood lawful allowed p.site t
+
+  -- names that the entry may give are those that are there
+  abbrev known : Name → Type 0
+  known = IsThere store
+
+  -- it is allowed where it stands
+  abbrev make : Entry → Type 0
+  make e = Stands store e → allowed p.site.usage store e
+
+  store_one : (e : Entry) → store_of (h.history ++ e ∷ []) ≡ effect_of store e
+  store_one e = store_after-append [] h.history (e ∷ [])
+
+  there : (at : Known) → MayLookInto p at → IsPublished h.index at
+  there at look = look_published h seen p mine at look
+
+  history_with : (e : Entry) → make e
+      → Stands store e
+      → IsLawful (lawful p.site.usage) (allowed p.site.usage) p.site.start (h.history ++ e ∷ [])
+  history_with e may stands =
+      lawful_with (lawful p.site.usage) (allowed p.site.usage) (laws p.site.usage) p.site.start h.history e
+      good.history
+      record { store = good.history.now; stands = stands; entry = may stands }
+
+  -- nothing is changed
+  still : (w x : ℕ) → x ≡ slice_index h.words w
+      → Kept record { words = slice_set h.words w x; index = h.index; used = h.used; history = h.history ++ [] }
+  still w x e =
+      let words = same_word h.words w x e in
+      let entries = append-nil h.history in
+      subst Kept
+      (λ i. record { words = sym words i; index = h.index; used = h.used; history = sym entries i }) good
+
+  -- an entry is made that leaves the store
+  read : (w x : ℕ) (e : Entry) → x ≡ slice_index h.words w
+      → make e
+      → Stands store e × (effect_of store e ≡ store) × (caller_of e ≡ p.number)
+      → Kept record { words = slice_set h.words w x; index = h.index; used = h.used; history = h.history ++ e ∷ [] }
+  read w x e is may stands =
+      let words = same_word h.words w x is in
+      let same : store_of (h.history ++ e ∷ []) ≡ store = store_one e ∙ stands.1 in
+      subst (λ (l : List ℕ). Kept record { words = l; index = h.index; used = h.used; history = h.history ++ e ∷ [] })
+      (sym words)
+      record {
+        wide = good.wide;
+        placed = good.placed;
+        contents = good.contents;
+        chained = subst (AreChained s h.words h.index) (sym same) good.chained;
+        history = history_with e may stands.0;
+        callers = below_more s.callers p.number h.history (Some e) stands.2 mine.number good.callers;
+      }
+
+  -- a word of the next version is stored
+  wrote : (i word : ℕ) → i < 16 → HasRoom p
+      → Kept record {
+        words = slice_set h.words (word_at s (next_version p) i) word;
+        index = h.index;
+        used = h.used;
+        history = h.history ++ [];
+      }
+  wrote i word low room =
+      let words : List ℕ = slice_set h.words (word_at s (next_version p) i) word in
+      let beside : (k : Known) (j : ℕ) → IsPublished h.index k → j < 16
+      → slice_index words (word_at s k.version j) ≡ slice_index h.words (word_at s k.version j) =
+      λ k j is small. elsewhere s h.words k.version (next_version p) j i word small low
+      (inl (λ e. let both : Some k ≡ None = sym is ∙ (ap h.index e ∙ next_none lawful allowed h seen p good mine room) in cc)) in
+      let entries = append-nil h.history in
+      subst (λ (l : List Entry). Kept record { words = words; index = h.index; used = h.used; history = l })
+      (sym entries)
+      record {
+        wide = length-set h.words (word_at s (next_version p) i) word ∙ good.wide;
+        placed = good.placed;
+        contents = λ k is. contents_same s h.index h.words words k (λ j some small. beside k j is small)
+            (good.contents k is);
+        chained = chained_beside s h.words words h.index store (λ k is. beside k 0 is (omega arith)) good.chained;
+        history = good.history;
+        callers = good.callers;
+      }
+
+  spelled : (w : ℕ) (r : Option Name) → Spells p.hands.held w r → Refers h.index w r
+  spelled w None e = e
+  spelled w (Some n) e = (e.0, mine.hands.held e.0 e.1, e.2, e.3)
+
+  -- what is built is in the words
+  built : (k : Known) → HasRoom p → k.version ≡ next_version p
+      → IsBuilt p.hands.held p.draft.written k.contents → HasContents s h.index h.words k
+  built k room at b =
+      let word : (j w : ℕ) → IsWritten p.draft.written j w → slice_index h.words (word_at s k.version j) ≡ w =
+      λ j w is. ap (λ (v : Version). slice_index h.words (word_at s v j)) at ∙ mine.draft.written room j w is in
+      record {
+        stamp = word 1 k.contents.stamp b.stamp;
+        refs = λ i low. let r = b.refs i low in
+            subst (λ (w : ℕ). Refers h.index w (reference_at k.contents i)) (sym (word (2 + i) r.0 r.1))
+            (spelled r.0 (reference_at k.contents i) r.2);
+        numbers = λ i low. word (6 + i) (slice_index k.contents.numbers i) (b.numbers i low);
+      }
+
+  own_place : (k : Known) → k.version ≡ next_version p
+      → k.version.0 ≡ row_of_part p * s.versions + h.used (row_of_part p)
+  own_place k at = ap (λ (v : Version). v.0) at ∙ next_at h seen p mine
+
+  -- the Create of the caller's next object stands
+  create_stands : (k : Known) → IsFirst known p k
+      → CreateStands store p.number k.name k.contents.refs k.contents.numbers
+  create_stands k first =
+      let maker : k.name.maker ≡ p.number = ap (λ (n : Name). n.maker) first.name in
+      let made : made_count p.number store ≡ create_count p.mine =
+      made_count-legal p.number p.site.start h.history good.history.legal ∙ ap create_count mine.calls.all in
+      let count : k.name.count ≡ made_count p.number store = ap (λ (n : Name). n.count) first.name ∙ sym made in
+      record {
+        maker = maker;
+        count = count;
+        fresh = fresh_name store k.name (well_made_legal p.site.start h.history good.history.legal)
+            (count ∙ ap (λ (q : ℕ). made_count q store) (sym maker));
+        given = all_there p store known (λ n there. there) k.contents.refs first.names;
+        sized = first.built.sized;
+      }
+
+  -- a new object is published
+  published : (k : Known) → IsFirst known p k
+      → make
+      (Create p.number k.name k.contents.refs k.contents.numbers)
+      → Kept record {
+        words = slice_set h.words (word_at s (next_version p) 0) 0;
+        index = with_one h.index k;
+        used = used_with h.used (row_of_part p) (Some k);
+        history = h.history ++ Create p.number k.name k.contents.refs k.contents.numbers ∷ [];
+      }
+  published k first may =
+      let e : Entry = Create p.number k.name k.contents.refs k.contents.numbers in
+      let words : List ℕ = slice_set h.words (word_at s (next_version p) 0) 0 in
+      let none = fresh_none lawful allowed h seen p good mine k first.room first.version in
+      let stands = create_stands k first in
+      let is : new_contents k.contents.refs k.contents.numbers ≡ k.contents =
+      λ i. record { stamp = sym first.stamp i; refs = k.contents.refs; numbers = k.contents.numbers } in
+      let made : contents_of (effect_of store e) k.name ≡ Some k.contents =
+      contents_of-push_new store (k.name, new_contents k.contents.refs k.contents.numbers) stands.fresh
+      ∙ ap (λ (x : Contents). Some x) is in
+      let links : (m : Known) → IsPublished h.index m → link_of s words m ≡ link_of s h.words m =
+      λ m there. elsewhere s h.words m.version (next_version p) 0 0 0 (omega arith) (omega arith)
+      (inl (λ x. not_the_one h.index k m none there (x ∙ ap (λ (v : Version). v.0) (sym first.version)))) in
+      let here : link_of s words k ≡ 0 =
+      ap (λ (v : Version). slice_index words (word_at s v 0)) first.version
+      ∙ written_here s h.words (next_version p) 0 0 good.wide
+      (next_small lawful allowed h seen p good mine first.room) (omega arith) in
+      let rank = first.rank in
+      record {
+        wide = length-set h.words (word_at s (next_version p) 0) 0 ∙ good.wide;
+        placed = placed_more s h.index h.used (row_of_part p) k good.placed (row_below h seen p mine)
+            (room_left h seen p mine first.room) (own_place k first.version) (omega arith)
+            (let a = first.stamp in record { stamp = omega arith; contents = first.built.sized });
+        contents = true_more s h.index h.words words k none
+            (λ x j some low. elsewhere s h.words x (next_version p) j 0 0 low (omega arith) (inr (λ z. omega arith)))
+            good.contents (built k first.room first.version first.built);
+        chained = subst (AreChained s words (with_one h.index k)) (sym (store_one e))
+            (chained_created s h.words words h.index store (effect_of store e) k none good.chained
+            (λ n. there_after store e n) made here links stands.fresh
+            (λ m. contents_of-push store (k.name, new_contents k.contents.refs k.contents.numbers) m.name m.contents));
+        history = history_with e may stands;
+        callers = below_more s.callers p.number h.history (Some e) refl mine.number good.callers;
+      }
+
+  -- a version is hung on the last one of its object
+  hung : (at k : Known) (e : Entry) → MayLookInto p at → IsLater p at k → Turns known p at k.contents e
+      → make e
+      → 0 ≡ link_of s h.words at
+      → Kept record {
+        words = slice_set h.words (word_at s at.version 0) (naming_word (Some k.version));
+        index = with_one h.index k;
+        used = used_with h.used (row_of_part p) (Some k);
+        history = h.history ++ e ∷ [];
+      }
+  hung at k e look later turns may zero_link =
+      let words : List ℕ = slice_set h.words (word_at s at.version 0) (naming_word (Some k.version)) in
+      let is : IsPublished h.index at = there at look in
+      let none = fresh_none lawful allowed h seen p good mine k later.room later.version in
+      let t = turns_stand p store known (λ n there. there) at k.contents e
+      (present_at lawful allowed h seen p good mine at look zero_link) turns in
+      let apart : at.version.0 ≢ k.version.0 = not_the_one h.index k at none is in
+      let links : (m : Known) → IsPublished h.index m → m.version.0 ≢ at.version.0
+      → link_of s words m ≡ link_of s h.words m =
+      λ m it n. elsewhere s h.words m.version at.version 0 0 (naming_word (Some k.version)) (omega arith) (omega arith)
+      (inl n) in
+      let here : link_of s words at ≡ naming_word (Some k.version) =
+      written_here s h.words at.version 0 (naming_word (Some k.version)) good.wide (good.placed.fits at is)
+      (omega arith) in
+      let own : link_of s words k ≡ 0 =
+      elsewhere s h.words k.version at.version 0 0 (naming_word (Some k.version)) (omega arith) (omega arith)
+      (inl (λ x. apart (sym x)))
+      ∙ (ap (λ (v : Version). slice_index h.words (word_at s v 0)) later.version
+      ∙ mine.draft.written later.room 0 0 later.link) in
+      let made : contents_of (effect_of store e) k.name ≡ Some k.contents =
+      ap (contents_of (effect_of store e)) later.name ∙ t.made in
+      let before = good.placed.ranks at is in
+      let rank = later.rank in
+      record {
+        wide = length-set h.words (word_at s at.version 0) (naming_word (Some k.version)) ∙ good.wide;
+        placed = placed_more s h.index h.used (row_of_part p) k good.placed (row_below h seen p mine)
+            (room_left h seen p mine later.room) (own_place k later.version) (omega arith)
+            (let a = t.stamp in let b = (good.placed.sized at is).stamp in
+            record { stamp = omega arith; contents = later.built.sized });
+        contents = true_more s h.index h.words words k none
+            (λ x j some low. elsewhere s h.words x at.version j 0 (naming_word (Some k.version)) low (omega arith)
+            (inr (λ z. omega arith)))
+            good.contents (built k later.room later.version later.built);
+        chained = subst (AreChained s words (with_one h.index k)) (sym (store_one e))
+            (chained_hung s h.words words h.index store (effect_of store e) k none good.chained
+            (λ n. there_after store e n) made own at is (sym zero_link) here links later.name later.rank t.others);
+        history = history_with e may t.stands;
+        callers = below_more s.callers p.number h.history (Some e) t.by mine.number good.callers;
+      }
+
+  -- a move leaves a good heap
+  pub heap_step : (act : Act) → MayTake known make p act → (x : ℕ)
+      → x ≡ slice_index h.words (word_of p act) → Kept (heap_after h p act x)
+  heap_step (LoadStamp at) may x is = still (word_at s at.version 1) x is
+  heap_step (LoadReference at i) may x is = still (word_at s at.version (2 + i)) x is
+  heap_step (LoadNumber at i) may x is = still (word_at s at.version (6 + i)) x is
+  heap_step (LoadLink at None) may zero is = still (word_at s at.version 0) zero is
+  heap_step (LoadLink at (Some e)) may zero is =
+      read (word_at s at.version 0) zero e is may.1.1
+      (reads_stand p store known (λ n there. there) at e
+      (present_at lawful allowed h seen p good mine at may.0 is) may.1.0)
+  heap_step (LoadLink at want) may (suc n) is = still (word_at s at.version 0) (suc n) is
+  heap_step (StoreOwn i word) may x is = wrote i word may.below may.room
+  heap_step (Publish k) may x is = published k may.0 may.1
+  heap_step (LinkStore at k e) may zero is = hung at k e may.look may.later may.turns may.may is
+  heap_step (LinkStore at k e) may (suc n) is = still (word_at s at.version 0) (suc n) is

@@ -1,0 +1,189 @@
+-- Where versions lie, and one version more.
+use Rattle.std.proofs.Common.{◌≡◌, ◌≢◌, ◌⊎◌, ◌<◌, ◌≤◌, ◌+◌, ◌*◌, ℕ, zero, suc, eqb, eq-eqb, ne_eqb, true, false, List, length, slice_index, slice_set, Option, Some, None, refl, sym, ap, ◌∙◌, subst, arith, inl, inr, ⊎_elim, get_or-set_other, get_or-set_same, suc-mul, mul-le-mul_right, lt_of_not-le}
+use Rattle.std.proofs.lemmas.Bool.Decides.{eqb_tells}
+use native.Mathlib.Decide.{ℕ_discrete, dec_le}
+use mathlib.Core.Logic.{dite}
+use Rattle.hm_shape.specs.declared.shape.Shape.{Shape}
+use Rattle.hm_shape.specs.declared.version.Version.{Version}
+use Rattle.hm_shape.specs.Versions.{IsVersionOf}
+use Rattle.hm_shape.specs.Words.{word_at, word_count}
+use Rattle.hm_model.specs.declared.object.Name.{Name}
+use Rattle.hm_core.specs.declared.part.Known.{Known}
+use Rattle.hm_core.specs.Chain.{Index, IsPublished, with_one, words_at, Refers, Follows, HasContents, AreTrue, IsSizedVersion, ArePlaced, row_count, total, reference_at}
+use Rattle.hm_core.specs.Moving.{used_with}
+
+-- a version that is published last is published
+pub published_here : (index : Index) (k : Known) → IsPublished (with_one index k) k
+published_here index k = rw (eq-eqb k.version.0 k.version.0 refl) refl
+
+-- two published versions of one number are one
+pub published_once : (index : Index) (k m : Known) → IsPublished index k → IsPublished index m
+    → m.version.0 ≡ k.version.0 → m ≡ k
+published_once index k m a b e = let both : Some m ≡ Some k = sym b ∙ (ap index e ∙ a) in cc
+
+-- a published version has another number than one that is not
+pub not_the_one : (index : Index) (k m : Known) → index k.version.0 ≡ None → IsPublished index m
+    → m.version.0 ≢ k.version.0
+not_the_one index k m none there e = let both : Some m ≡ None = sym there ∙ (ap index e ∙ none) in cc
+
+-- published versions stay so
+pub published_more : (index : Index) (k m : Known) → index k.version.0 ≡ None → IsPublished index m
+    → IsPublished (with_one index k) m
+published_more index k m none there =
+    rw (ne_eqb m.version.0 k.version.0 (not_the_one index k m none there)) there
+
+-- a published version is the new one, or one from before with another number
+abbrev pub Either : Index → Known → Known → Type 0
+Either index k m = (k ≡ m) ⊎ ((m.version.0 ≢ k.version.0) × IsPublished index m)
+
+pub published_either : (index : Index) (k m : Known) → IsPublished (with_one index k) m → Either index k m
+published_either index k m h = ⊎_elim
+    (λ (t : (eqb m.version.0 k.version.0 ≡ true) × (m.version.0 ≡ k.version.0)).
+    let both : Some k ≡ Some m = rw t.0 at h in inl (cc))
+    (λ (t : (eqb m.version.0 k.version.0 ≡ false) × (m.version.0 ≢ k.version.0)).
+    let it : IsPublished index m = rw t.0 at h in inr (t.1, it))
+    (eqb_tells m.version.0 k.version.0)
+
+-- a word refers as before
+pub refers_more : (index : Index) (k : Known) (w : ℕ) (r : Option Name) → index k.version.0 ≡ None
+    → Refers index w r → Refers (with_one index k) w r
+refers_more index k w None none h = h
+refers_more index k w (Some n) none h = (h.0, published_more index k h.0 none h.1, h.2, h.3)
+
+-- a version follows as before
+pub follows_more : (index : Index) (k a b : Known) → index k.version.0 ≡ None → Follows index a b
+    → Follows (with_one index k) a b
+follows_more index k a b none h =
+    record { published = published_more index k b none h.published; same = h.same; rank = h.rank }
+
+-- a store into one word leaves the others
+pub elsewhere : (s : Shape) (words : List ℕ) (v w : Version) (i j y : ℕ) → i < 16 → j < 16
+    → (v.0 ≢ w.0) ⊎ (i ≢ j)
+    → slice_index (slice_set words (word_at s w j) y) (word_at s v i) ≡ slice_index words (word_at s v i)
+elsewhere s words v w i j y a b n =
+    get_or-set_other words (word_at s w j) (word_at s v i) y 0
+    (λ e. ⊎_elim (λ (t : v.0 ≢ w.0). t (omega arith)) (λ (t : i ≢ j). t (omega arith)) n)
+
+-- and is found there
+pub written_here : (s : Shape) (words : List ℕ) (w : Version) (j y : ℕ) → length words ≡ word_count s
+    → IsVersionOf s w → j < 16 → slice_index (slice_set words (word_at s w j) y) (word_at s w j) ≡ y
+written_here s words w j y wide small low =
+    get_or-set_same words (word_at s w j) y 0 (omega arith)
+
+-- the words of a version's contents are the same
+abbrev pub SameBody : Shape → List ℕ → List ℕ → Version → Type 0
+SameBody s words words' v = (i : ℕ) → 0 < i → i < 16
+    → slice_index words' (word_at s v i) ≡ slice_index words (word_at s v i)
+
+pub contents_same : (s : Shape) (index : Index) (words words' : List ℕ) (k : Known)
+    → SameBody s words words' k.version → HasContents s index words k → HasContents s index words' k
+contents_same s index words words' k same h = record {
+  stamp = same 1 (omega arith) (omega arith) ∙ h.stamp;
+  refs = λ i low. subst (λ (w : ℕ). Refers index w (reference_at k.contents i))
+      (sym (same (2 + i) (omega arith) (omega arith))) (h.refs i low);
+  numbers = λ i low. same (6 + i) (omega arith) (omega arith) ∙ h.numbers i low;
+}
+
+pub contents_more : (s : Shape) (index : Index) (words : List ℕ) (k m : Known) → index k.version.0 ≡ None
+    → HasContents s index words m → HasContents s (with_one index k) words m
+contents_more s index words k m none h = record {
+  stamp = h.stamp;
+  refs = λ i low. refers_more index k (words_at s words m (2 + i)) (reference_at m.contents i) none (h.refs i low);
+  numbers = h.numbers;
+}
+
+-- a version more, with its contents
+pub true_more : (s : Shape) (index : Index) (words words' : List ℕ) (k : Known) → index k.version.0 ≡ None
+    → ((v : Version) → SameBody s words words' v) → AreTrue s words index → HasContents s index words k
+    → AreTrue s words' (with_one index k)
+true_more s index words words' k none same all one m there =
+    contents_same s (with_one index k) words words' m (same m.version) (contents_more s index words k m none (⊎_elim
+    (λ (t : k ≡ m). subst (HasContents s index words) t one)
+    (λ (t : (m.version.0 ≢ k.version.0) × IsPublished index m). all m t.1)
+    (published_either index k m there)))
+
+lower : (q r n i j : ℕ) → i < n → q * n + i ≡ r * n + j → Dec (r ≤ q) → r ≤ q
+lower q r n i j a e (yes d) = d
+lower q r n i j a e (no d) =
+    let less : suc q * n ≤ r * n = mul-le-mul_right n (lt_of_not-le d) in absurd (omega (arith, suc-mul q n))
+
+-- a place belongs to one row
+pub same_row : (q r n i j : ℕ) → i < n → j < n → q * n + i ≡ r * n + j → q ≡ r
+same_row q r n i j a b e =
+    let x : r ≤ q = lower q r n i j a e (dec_le r q) in
+    let y : q ≤ r = lower r q n j i b (sym e) (dec_le q r) in omega arith
+
+-- a place in a row is below all places
+pub place_small : (q rows n i : ℕ) → q < rows → i < n → q * n + i < rows * n
+place_small q rows n i a b =
+    let less : suc q * n ≤ rows * n = mul-le-mul_right n a in omega (arith, suc-mul q n)
+
+pub used_here : (used : ℕ → ℕ) (q : ℕ) (k : Known) → used_with used q (Some k) q ≡ used q + 1
+used_here used q k = rw (eq-eqb q q refl) refl
+
+pub used_else : (used : ℕ → ℕ) (q r : ℕ) (k : Known) → r ≢ q → used_with used q (Some k) r ≡ used r
+used_else used q r k n = rw (ne_eqb r q n) refl
+
+total_above : (used : ℕ → ℕ) (q n : ℕ) (k : Known) → n ≤ q
+    → total (used_with used q (Some k)) n ≡ total used n
+total_above used q zero k le = refl
+total_above used q (suc n) k le =
+    let a = total_above used q n k (omega arith) in
+    let b = used_else used q n k (λ e. omega arith) in omega arith
+
+-- one more is counted once
+pub total_more : (used : ℕ → ℕ) (q n : ℕ) (k : Known) → q < n
+    → total (used_with used q (Some k)) n ≡ total used n + 1
+total_more used q zero k h = absurd (omega arith)
+total_more used q (suc n) k h = dite (ℕ_discrete n q)
+    (λ e. let a = total_above used q n k (omega arith) in
+    let b : used_with used q (Some k) n ≡ used n + 1 = rw (eq-eqb n q e) refl in omega arith)
+    (λ ne. let a = total_more used q n k (omega arith) in let b = used_else used q n k ne in omega arith)
+
+-- no more are counted than there is place for
+pub total_small : (used : ℕ → ℕ) (n size : ℕ) → ((q : ℕ) → used q ≤ size) → total used n ≤ n * size
+total_small used zero size h = omega arith
+total_small used (suc n) size h =
+    let a = total_small used n size h in let b = h n in omega (arith, suc-mul n size)
+
+module _ (s : Shape) (index : Index) (used : ℕ → ℕ) (row : ℕ) (k : Known) (placed : ArePlaced s index used)
+    (below : row < row_count s) (room : used row < s.versions)
+    (at : k.version.0 ≡ row * s.versions + used row) where
+  -- the next place is not used
+  pub fresh_place : index k.version.0 ≡ None
+  fresh_place = ap index at ∙ placed.unused row (used row) below room (omega arith)
+
+  pub fresh_small : IsVersionOf s k.version
+  fresh_small = let h = place_small row (row_count s) s.versions (used row) below room in omega arith
+
+  -- a version more lies at that place
+  pub placed_more : k.rank < total used (row_count s) + 1 → IsSizedVersion k
+      → ArePlaced s (with_one index k) (used_with used row (Some k))
+  placed_more rank sized = record {
+    sized = λ m there. ⊎_elim
+        (λ (t : k ≡ m). subst IsSizedVersion t sized)
+        (λ (t : (m.version.0 ≢ k.version.0) × IsPublished index m). placed.sized m t.1)
+        (published_either index k m there);
+    fits = λ m there. ⊎_elim
+        (λ (t : k ≡ m). subst (λ (x : Known). IsVersionOf s x.version) t fresh_small)
+        (λ (t : (m.version.0 ≢ k.version.0) × IsPublished index m). placed.fits m t.1)
+        (published_either index k m there);
+    unused = λ r i low little past. dite (ℕ_discrete r row)
+        (λ e. let one : used_with used row (Some k) r ≡ used r + 1 = rw (eq-eqb r row e) refl in
+        let same : used r ≡ used row = ap used e in
+        let here : r * s.versions ≡ row * s.versions = ap (λ (x : ℕ). x * s.versions) e in
+        let apart : r * s.versions + i ≢ k.version.0 = λ is. omega arith in
+        rw (ne_eqb (r * s.versions + i) k.version.0 apart) (placed.unused r i low little (omega arith)))
+        (λ ne. let one = used_else used row r k ne in
+        let apart : r * s.versions + i ≢ k.version.0 =
+        λ is. ne (same_row r row s.versions i (used row) little room (is ∙ at)) in
+        rw (ne_eqb (r * s.versions + i) k.version.0 apart) (placed.unused r i low little (omega arith)));
+    filled = λ r. dite (ℕ_discrete r row)
+        (λ e. let one : used_with used row (Some k) r ≡ used r + 1 = rw (eq-eqb r row e) refl in
+        let same : used r ≡ used row = ap used e in omega arith)
+        (λ ne. let one = used_else used row r k ne in let h = placed.filled r in omega arith);
+    ranks = λ m there. let more = total_more used row (row_count s) k below in ⊎_elim
+        (λ (t : k ≡ m). let same : k.rank ≡ m.rank = ap (λ (x : Known). x.rank) t in omega arith)
+        (λ (t : (m.version.0 ≢ k.version.0) × IsPublished index m). let h = placed.ranks m t.1 in omega arith)
+        (published_either index k m there);
+  }

@@ -1,0 +1,65 @@
+-- A fresh machine leads to safe ones alone.
+use Rattle.std.proofs.Common.{◌≡◌, ◌≢◌, ◌<◌, ◌≤◌, ℕ, zero, suc, List, ◌++◌, Some, refl, sym, ap, ◌∙◌, subst, arith}
+use Rattle.hm_model.specs.declared.entry.Entry.{Entry}
+use Rattle.hm_model.specs.Store.{PlainStore, contents_of}
+use Rattle.hm_model.specs.History.{store_of, opening_of, starting_count, IsSizedStart}
+use Rattle.hm_model.specs.Lawful.{UsageLaws}
+use Rattle.hm_core.specs.declared.part.Known.{Known}
+use Rattle.hm_core.specs.declared.part.Site.{Site}
+use Rattle.hm_core.specs.Chain.{Index, Heap, IsPublished, IsLinked, link_of}
+use Rattle.hm_core.specs.Good.{HeapIsGood, Core, Good}
+use Rattle.hm_core.specs.Fresh.{IsFreshCore}
+use Rattle.hm_core.specs.Safe.{IsForward, IsSafe, Leads, here, moved, cut, met}
+use Rattle.hm_core.proofs.Steps.{good_step}
+use Rattle.hm_core.proofs.Seats.{good_split, good_join}
+use Rattle.hm_core.proofs.Fresh.{good_fresh}
+
+forward : (index : Index) (store : PlainStore) (k : Known) (w : ℕ) → IsLinked index store k w → IsForward index k w
+forward index store k zero h = tt
+forward index store k (suc v) h = h
+
+module _ {U : Type 0} (lawful : U → PlainStore → Type 0) (allowed : U → PlainStore → Entry → Type 0) (g : Site U) where
+  -- what is kept is safe
+  pub safe_good : (c : Core U) → Good lawful allowed g c → IsSafe g c
+  safe_good c good =
+      let h : Heap = c.heap in
+      let chained = good.heap.chained in
+      record {
+        contents = record {
+          words = good.heap.contents;
+          present = λ k is zero_link. subst (IsLinked h.index (store_of h.history) k) zero_link (chained.link k is);
+        };
+        chains = record {
+          links = λ k is. forward h.index (store_of h.history) k (link_of g.shape h.words k) (chained.link k is);
+          ranks = chained.apart;
+          last = λ k m a b same x y.
+              let low = chained.top k m a b same x in
+              let high = chained.top m k b a (sym same) y in chained.apart k m a b same (omega arith);
+        };
+        ranks = record {
+          ranks = λ k is. let low = good.heap.placed.ranks k is in omega arith;
+          rows = good.heap.placed.filled;
+        };
+        history = record {
+          legal = good.heap.history.legal;
+          seen = good.seen;
+          calls = λ j k v p at. let part = good.parts j k v p at in (part.calls.all, part.calls.seen);
+        };
+      }
+
+  module _ (laws : (u : U) → UsageLaws (lawful u) (allowed u)) where
+    -- every machine that a good one leads to is good
+    pub good_always : (c d : Core U) → Good lawful allowed g c → Leads lawful allowed c d → Good lawful allowed g d
+    good_always c _ good here = good
+    good_always c _ good (moved d id place v p m l at may) =
+        good_step lawful allowed laws g d id place v p m (good_always c d good l) at may
+    good_always c _ good (cut d id v left right l at parts) =
+        good_split lawful allowed g d id v (good_always c d good l) at left right parts
+    good_always c _ good (met d id other v w l at apart there) =
+        good_join lawful allowed g d id v (good_always c d good l) at other w apart there
+
+    -- so every machine that a fresh one leads to is safe
+    pub safe_always : (c d : Core U) → IsSizedStart g.start → starting_count g.start ≤ g.shape.versions
+        → IsFreshCore g c → lawful g.usage (store_of (opening_of g.start)) → Leads lawful allowed c d → IsSafe g d
+    safe_always c d sized room fresh now l =
+        safe_good d (good_always c d (good_fresh lawful allowed g sized room c fresh now) l)

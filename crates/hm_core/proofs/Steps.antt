@@ -1,0 +1,201 @@
+-- A move of a seat's caller leaves a good machine, and what it tells the caller is so.
+use Rattle.std.proofs.Common.{◌≡◌, ◌≢◌, ◌⊎◌, ℕ, List, slice_index, Option, Some, None, IfSome, refl, sym, ap, ◌∙◌, subst, arith, ⊎_elim}
+use mathlib.Core.Option.{some}
+use lib.ListN.{get_elem?}
+use Rattle.hm_model.specs.declared.entry.Entry.{Entry}
+use Rattle.hm_model.specs.declared.object.Name.{Name}
+use Rattle.hm_model.specs.Store.{PlainStore, IsThere}
+use Rattle.hm_model.specs.Effect.{Stands}
+use Rattle.hm_model.specs.History.{store_of}
+use Rattle.hm_model.specs.Lawful.{UsageLaws}
+use Rattle.hm_core.specs.declared.part.Known.{Known}
+use Rattle.hm_core.specs.declared.part.Site.{Site}
+use Rattle.hm_core.specs.declared.part.Part.{Part}
+use Rattle.hm_core.specs.declared.part.View.{View}
+use Rattle.hm_core.specs.declared.moving.Move.{Move}
+use Rattle.hm_core.specs.Chain.{Heap, IsFit, IsPublished, row_count}
+use Rattle.hm_core.specs.Moving.{word_of, heap_after, entry_of, finds, listed, publishes, part_after, view_after, IsLawfulMove}
+use Rattle.hm_core.specs.Good.{Begins, HeapIsGood, PartIsGood, Core, Good, Carries, Told, applied}
+use Rattle.hm_core.proofs.Histories.{IsBy, begins_more, others_only}
+use Rattle.hm_core.proofs.Placed.{total_small, published_once}
+use Rattle.hm_core.proofs.Heaps.{heap_step}
+use Rattle.hm_core.proofs.Finding.{entry_by, found_now, new_now}
+use Rattle.hm_core.proofs.Parts.{own_part, other_part, calls_known, calls_along, begins_after, seen_lawful}
+use Rattle.hm_core.proofs.Places.{at_set}
+
+module _ {U : Type 0} (lawful : U → PlainStore → Type 0) (allowed : U → PlainStore → Entry → Type 0)
+    (laws : (u : U) → UsageLaws (lawful u) (allowed u)) (c : Core U) (id place : ℕ) (v : View U) (p : Part U)
+    (m : Move) (good : Good lawful allowed p.site c) (at : Carries c.views id place v p)
+    (may : IsLawfulMove lawful allowed c.heap.history p m) where
+  abbrev names : Name → Type 0
+  names = IsThere (store_of c.heap.history)
+
+  abbrev make : Entry → Type 0
+  make e = Stands (store_of c.heap.history) e → allowed p.site.usage (store_of c.heap.history) e
+
+  mine : PartIsGood p.site c.heap v.seen p
+  mine = good.parts id place v p at
+
+  begins : Begins v.seen c.heap.history
+  begins = good.seen id v at.seat
+
+  abbrev x : ℕ
+  x = slice_index c.heap.words (word_of p m.act)
+
+  abbrev new : Part U
+  new = part_after p m x (finds c.heap.index m.act x)
+
+  abbrev w : View U
+  w = view_after v place c.heap.history p m x (finds c.heap.index m.act x)
+
+  abbrev made : Option Entry
+  made = entry_of p.number m.act x
+
+  by : IsBy p.number made
+  by = entry_by lawful allowed c.heap v.seen p good.heap mine names make m.act may.act x
+
+  -- a view of the machine afterwards is the seat's own, or one from before
+  abbrev EitherView : ℕ → View U → Type 0
+  EitherView j u = ((j ≡ id) × (w ≡ u)) ⊎ ((j ≢ id) × (get_elem? c.views j ≡ some u))
+
+  either_view : (j : ℕ) (u : View U) → get_elem? (applied c id place v p m).views j ≡ some u → EitherView j u
+  either_view j u there = at_set c.views id j w u there
+
+  -- a caller of that seat is the one that moved, or one from before
+  abbrev EitherPart : ℕ → Part U → Type 0
+  EitherPart k q = ((k ≡ place) × (new ≡ q)) ⊎ ((k ≢ place) × (get_elem? v.parts k ≡ some q))
+
+  either_part : (k : ℕ) (u : View U) (q : Part U) → w ≡ u → get_elem? u.parts k ≡ some q → EitherPart k q
+  either_part k u q e there =
+      at_set v.parts place k new q (ap (λ (z : View U). get_elem? z.parts k) e ∙ there)
+
+  -- a caller stood in the same place before, with the same number
+  record Stood (j k n : ℕ) : Type 0 where
+    old_view : View U
+    old : Part U
+    carries : Carries c.views j k old_view old
+    same : old.number ≡ n
+
+  stood : (j k : ℕ) (u : View U) (q : Part U) → Carries (applied c id place v p m).views j k u q → Stood j k q.number
+  stood j k u q t = ⊎_elim
+      (λ (r : (j ≡ id) × (w ≡ u)).
+      let seat : get_elem? c.views j ≡ some v = ap (get_elem? c.views) r.0 ∙ at.seat in ⊎_elim
+      (λ (y : (k ≡ place) × (new ≡ q)). record {
+        old_view = v;
+        old = p;
+        carries = record { seat = seat; place = ap (get_elem? v.parts) y.0 ∙ at.place };
+        same = ap (λ (z : Part U). z.number) y.1;
+      })
+      (λ (y : (k ≢ place) × (get_elem? v.parts k ≡ some q)). record {
+        old_view = v;
+        old = q;
+        carries = record { seat = seat; place = y.1 };
+        same = refl;
+      })
+      (either_part k u q r.1 t.place))
+      (λ (r : (j ≢ id) × (get_elem? c.views j ≡ some u)). record {
+        old_view = u;
+        old = q;
+        carries = record { seat = r.1; place = t.place };
+        same = refl;
+      })
+      (either_view j u t.seat)
+
+  own_after : PartIsGood p.site (heap_after c.heap p m.act x) w.seen new
+  own_after = own_part lawful allowed c.heap v.seen p good.heap mine names make begins m may.act x refl
+
+  -- another caller of the same seat
+  along : (k : ℕ) (q : Part U) → k ≢ place → get_elem? v.parts k ≡ some q
+      → PartIsGood p.site (heap_after c.heap p m.act x) w.seen q
+  along k q ne there =
+      let was : Carries c.views id k v q = record { seat = at.seat; place = there } in
+      let theirs = good.parts id k v q was in
+      let apart : q.number ≢ p.number = λ e. ne (good.apart id k id place v v q p was at e).1 in
+      other_part lawful allowed c.heap v.seen p good.heap mine names make v.seen q apart theirs m.act may.act x w.seen
+      (calls_along lawful allowed c.heap v.seen p good.heap mine names make v.seen q apart theirs made by begins)
+
+  -- a caller of another seat
+  beside : (j k : ℕ) (u : View U) (q : Part U) → j ≢ id → Carries c.views j k u q
+      → PartIsGood p.site (heap_after c.heap p m.act x) u.seen q
+  beside j k u q ne was =
+      let theirs = good.parts j k u q was in
+      let apart : q.number ≢ p.number = λ e. ne (good.apart j k id place u v q p was at e).0 in
+      other_part lawful allowed c.heap v.seen p good.heap mine names make u.seen q apart theirs m.act may.act x u.seen
+      (calls_known lawful allowed c.heap v.seen p good.heap mine names make u.seen q apart theirs made by)
+
+  own_step : Good lawful allowed p.site (applied c id place v p m)
+  own_step = record {
+    heap = heap_step lawful allowed laws c.heap v.seen p good.heap mine m.act may.act x refl;
+    seen = λ j u there. ⊎_elim
+        (λ (t : (j ≡ id) × (w ≡ u)). subst
+        (λ (z : View U). Begins z.seen (heap_after c.heap p m.act x).history) t.1
+        (begins_after lawful allowed c.heap v.seen p good.heap mine names make begins made))
+        (λ (t : (j ≢ id) × (get_elem? c.views j ≡ some u)).
+        begins_more u.seen c.heap.history (listed made) (good.seen j u t.1))
+        (either_view j u there);
+    parts = λ j k u q s. ⊎_elim
+        (λ (t : (j ≡ id) × (w ≡ u)).
+        subst (λ (z : View U). PartIsGood p.site (heap_after c.heap p m.act x) z.seen q) t.1 (⊎_elim
+        (λ (y : (k ≡ place) × (new ≡ q)).
+        subst (PartIsGood p.site (heap_after c.heap p m.act x) w.seen) y.1 own_after)
+        (λ (y : (k ≢ place) × (get_elem? v.parts k ≡ some q)). along k q y.0 y.1)
+        (either_part k u q t.1 s.place)))
+        (λ (t : (j ≢ id) × (get_elem? c.views j ≡ some u)).
+        beside j k u q t.0 record { seat = t.1; place = s.place })
+        (either_view j u s.seat);
+    apart = λ j k i n u u' q q' s s' same.
+        let a = stood j k u q s in
+        let b = stood i n u' q' s' in
+        good.apart j k i n a.old_view b.old_view a.old b.old a.carries b.carries (a.same ∙ (same ∙ sym b.same));
+  }
+
+  fit_at : (h : Heap) → HeapIsGood lawful allowed p.site h → (o : Option Known) → IfSome o (IsPublished h.index)
+      → IfSome o (IsFit p.site.shape)
+  fit_at h kept None is = tt
+  fit_at h kept (Some k) is =
+      let a = kept.placed.ranks k is in
+      let b = total_small h.used (row_count p.site.shape) p.site.shape.versions kept.placed.filled in
+      record { version = kept.placed.fits k is; rank = omega arith; sized = kept.placed.sized k is }
+
+  own_told : Told lawful allowed p.site m v place p x w
+  own_told =
+      let found = found_now lawful allowed c.heap v.seen p good.heap mine names make m.act may.act x refl in
+      record {
+        between = begins.rest;
+        found = finds c.heap.index m.act x;
+        others = others_only p.number v.seen c.heap.history p.mine begins.rest begins.is mine.calls.all
+            mine.calls.seen;
+        what = found.0;
+        fit = fit_at c.heap good.heap (finds c.heap.index m.act x) found.1;
+        fit_new = fit_at (heap_after c.heap p m.act x) own_step.heap (publishes m.act x)
+            (new_now c.heap.index (publishes m.act x));
+        once = λ k n here there. published_once (heap_after c.heap p m.act x).index k n
+            (own_after.hands.held k here) (own_after.hands.held n there);
+        is = ap (λ (l : List Entry). view_after v place l p m x (finds c.heap.index m.act x)) begins.is;
+        history = seen_lawful lawful allowed c.heap v.seen p good.heap mine names make begins made own_step.heap.history;
+      }
+
+module _ {U : Type 0} (lawful : U → PlainStore → Type 0) (allowed : U → PlainStore → Entry → Type 0)
+    (laws : (u : U) → UsageLaws (lawful u) (allowed u)) (g : Site U) (c : Core U) (id place : ℕ) (v : View U)
+    (p : Part U) (m : Move) (good : Good lawful allowed g c) (at : Carries c.views id place v p)
+    (may : IsLawfulMove lawful allowed c.heap.history p m) where
+  site : p.site ≡ g
+  site = (good.parts id place v p at).site
+
+  good_own : Good lawful allowed p.site c
+  good_own = subst (λ (z : Site U). Good lawful allowed z c) (sym site) good
+
+  -- a move leaves a good machine
+  pub good_step : Good lawful allowed g (applied c id place v p m)
+  good_step = subst (λ (z : Site U). Good lawful allowed z (applied c id place v p m)) site
+      (own_step lawful allowed laws c id place v p m good_own at may)
+
+  -- what it tells is so
+  pub told_step : Told lawful allowed g m v place p (slice_index c.heap.words (word_of p m.act))
+      (view_after v place c.heap.history p m (slice_index c.heap.words (word_of p m.act))
+      (finds c.heap.index m.act (slice_index c.heap.words (word_of p m.act))))
+  told_step = subst
+      (λ (z : Site U). Told lawful allowed z m v place p (slice_index c.heap.words (word_of p m.act))
+      (view_after v place c.heap.history p m (slice_index c.heap.words (word_of p m.act))
+      (finds c.heap.index m.act (slice_index c.heap.words (word_of p m.act)))))
+      site (own_told lawful allowed laws c id place v p m good_own at may)
