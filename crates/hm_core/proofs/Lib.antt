@@ -12,3 +12,4 @@ pub mod Enabling
 pub mod Seats
 pub mod Fresh
 pub mod Safe
+pub mod Stepping

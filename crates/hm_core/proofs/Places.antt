@@ -56,3 +56,17 @@ module _ {A : Type 0} where
       (λ (t : (i : ℕ) × (k ≡ length xs + i) × (get_elem? m i ≡ some a)).
       inr (t.0, let h = t.1 in omega arith, t.2))
       (at_either xs m k a e)
+
+  -- what was put at a place that had an element is there
+  pub set_here : (l : List A) (i : ℕ) (a b : A) → get_elem? l i ≡ some a → get_elem? (set l i b) i ≡ some b
+  set_here [] i a b e = absurd (some-ne-none a (sym e))
+  set_here (x ∷ xs) zero a b e = refl
+  set_here (x ∷ xs) (suc i) a b e = set_here xs i a b e
+
+  -- and elsewhere is what was there
+  pub set_else : (l : List A) (i j : ℕ) (b : A) → j ≢ i → get_elem? (set l i b) j ≡ get_elem? l j
+  set_else [] i j b ne = refl
+  set_else (x ∷ xs) zero zero b ne = absurd (ne refl)
+  set_else (x ∷ xs) zero (suc j) b ne = refl
+  set_else (x ∷ xs) (suc i) zero b ne = refl
+  set_else (x ∷ xs) (suc i) (suc j) b ne = set_else xs i j b (λ e. ne (ap suc e))

@@ -1,13 +1,13 @@
 -- A fresh machine leads to safe ones alone.
-use Rattle.std.proofs.Common.{◌≡◌, ◌≢◌, ◌<◌, ◌≤◌, ℕ, zero, suc, List, ◌++◌, Some, refl, sym, ap, ◌∙◌, subst, arith}
+use Rattle.std.proofs.Common.{◌≤◌, ℕ, zero, suc, sym, subst, arith}
 use Rattle.hm_model.specs.declared.entry.Entry.{Entry}
-use Rattle.hm_model.specs.Store.{PlainStore, contents_of}
+use Rattle.hm_model.specs.Store.{PlainStore}
 use Rattle.hm_model.specs.History.{store_of, opening_of, starting_count, IsSizedStart}
 use Rattle.hm_model.specs.Lawful.{UsageLaws}
 use Rattle.hm_core.specs.declared.part.Known.{Known}
 use Rattle.hm_core.specs.declared.part.Site.{Site}
-use Rattle.hm_core.specs.Chain.{Index, Heap, IsPublished, IsLinked, link_of}
-use Rattle.hm_core.specs.Good.{HeapIsGood, Core, Good}
+use Rattle.hm_core.specs.Chain.{Index, Heap, IsLinked, link_of}
+use Rattle.hm_core.specs.Good.{Core, Good}
 use Rattle.hm_core.specs.Fresh.{IsFreshCore}
 use Rattle.hm_core.specs.Safe.{IsForward, IsSafe, Leads, here, moved, cut, met}
 use Rattle.hm_core.proofs.Steps.{good_step}

@@ -12,7 +12,7 @@ use Rattle.hm_core.specs.declared.part.View.{View}
 use Rattle.hm_core.specs.Moving.{view}
 use Rattle.hm_core.specs.Good.{Begins, AreBelow, PartIsGood, Core, Good, Carries, split, joined, joined_view, longer, spent_view}
 use Rattle.hm_core.proofs.Histories.{below_later, none_made, nothing_more, begins_on, begins_longer, left_begins, right_begins, calls_between}
-use Rattle.hm_core.proofs.Places.{at_set, at_longer, at_later, at_below, at_end, at_either}
+use Rattle.hm_core.proofs.Places.{at_set, at_longer, at_later, at_below, at_end, at_either, set_here, set_else}
 
 module _ {U : Type 0} (lawful : U → PlainStore → Type 0) (allowed : U → PlainStore → Entry → Type 0) (g : Site U) (c : Core U) (id : ℕ) (v : View U) (good : Good lawful allowed g c) (at : get_elem? c.views id ≡ some v) where
   module _ (left right : List (Part U)) (cut : v.parts ≡ left ++ right) where
@@ -165,6 +165,15 @@ module _ {U : Type 0} (lawful : U → PlainStore → Type 0) (allowed : U → Pl
           let ha = a.how in
           let hb = b.how in
           grind arith;
+    }
+
+    -- a caller whose seat was joined stays, as it is, behind those of the seat that took it
+    pub carried_on : (k : ℕ) (q : Part U) → get_elem? w.parts k ≡ some q
+        → Carries (joined c id v other w).views id (length v.parts + k) (joined_view v w) q
+    carried_on k q here = record {
+      seat = set_else (set c.views id (joined_view v w)) other id spent_view (λ e. apart (sym e))
+          ∙ set_here c.views id v (joined_view v w) at;
+      place = at_later v.parts w.parts k q here;
     }
 
   -- a seat that carries every caller has seen all

@@ -3,3 +3,4 @@ pub mod Moving
 pub mod Good
 pub mod Fresh
 pub mod Safe
+pub mod Stepping

@@ -17,7 +17,23 @@
 //! | [`Act::Publish`] | a store of 0 into the link of that version | a Create; the version is published |
 //! | [`Act::LinkStore`] | an exchange of a link from 0 to that version | where it finds 0, a Store or a StoreIf that answers Stored; the version is published |
 //!
-//! Besides, a seat may be split, so that a note is cut off it, and joined with another.
+//! Besides, a seat may be split, so that a note is cut off it, and joined with another. A caller whose seat was joined
+//! stays as it is in the view that took the seat.
+//!
+//! What every moment keeps is a record of sub-records, one for each part of the state (`specs/Good.antt`):
+//!
+//! - *places*: published versions lie in the first places of each region, and no rank passes their number;
+//! - *contents*: the words of each published version are its contents;
+//! - *chains*: links go to later versions, the last version of an object has the greatest rank and what the plain
+//!   store holds, and no two versions of an object have one rank;
+//! - *history*: it is lawful, each seat has seen a beginning of it, and each caller's entries are its calls there;
+//! - *draft*: the words that a caller has written are in the Table, and name versions that it holds;
+//! - *hands*: what a caller may look into is published, and it lists all versions that it published.
+//!
+//! From this follows the safety rule (`specs/Safe.antt`), for every machine that a fresh one leads to.
+//!
+//! A [`Step`] gives a kind of step with the numbers of versions. `specs/Stepping.antt` tells which act it is, and the
+//! conditions under which it is accepted, in the order in which they are tested.
 #![tactic(auto)]
 
 mod moving;
