@@ -16,3 +16,6 @@ pub mod Effects
 pub mod TradesSound
 pub mod SoundSteps
 pub mod AfterLimit
+pub mod Apart
+pub mod Uncrossed
+pub mod Agreeing

@@ -41,7 +41,7 @@ module _ (order : Order) (book : List Resting) (maker : Resting) where
   maker_is false (Some best) is e = crossed_is best (crosses order best) is e
 
   -- the next maker is of the book
-  next_maker-in_book : (left : ℕ) → next_maker order left book ≡ Some maker → Contains book maker
+  pub next_maker-in_book : (left : ℕ) → next_maker order left book ≡ Some maker → Contains book maker
   next_maker-in_book left e = maker_is (left == 0) (best_opposite order.side book) (best_opposite_is order.side book) e
 
 module _ (order : Order) (taker : ℕ) where
