@@ -1,5 +1,5 @@
 -- Each entry, and what it makes of the history, the table of objects and the root places.
-use Rattle.std.proofs.Common.{◌≡◌, ◌≢◌, ℕ, ◌+◌, ◌<◌, ◌≤◌, Bool, true, cond, Option, Some, None, IsSome, IfSome, All, List, [], ◌∷◌, ◌++◌, map, length, get_or, slice_set, replicate, refl, sym, ap, ◌∙◌, subst, arith, get_or-set_same, get_or-set_other, length-append, length-set}
+use Rattle.std.proofs.Common.{◌≡◌, ℕ, ◌+◌, ◌<◌, ◌≤◌, Bool, true, cond, Option, Some, None, IfSome, List, [], ◌∷◌, ◌++◌, map, length, get_or, slice_set, replicate, refl, sym, ap, ◌∙◌, subst, arith, get_or-set_same, get_or-set_other, length-append, length-set}
 use Rattle.std.proofs.lemmas.List.Elements.{All-weaker, All-set, All-replicate}
 use Rattle.std.proofs.lemmas.List.Sums.{sum_by_push}
 use Rattle.std.proofs.Math.ListN.{get_or-map}
@@ -9,17 +9,16 @@ use Rattle.hm_model.specs.declared.object.Contents.{Contents}
 use Rattle.hm_model.specs.declared.entry.Entry.{Entry}
 use Rattle.hm_model.specs.declared.entry.Entry.TheVariants.{Create, Fetch}
 use Rattle.hm_model.specs.declared.root.Root.{Root}
-use Rattle.hm_model.specs.Store.{PlainStore, IsThere, with_changed}
+use Rattle.hm_model.specs.Store.{PlainStore, with_changed}
 use Rattle.hm_model.specs.Effect.{caller_of, Stands, effect_of, new_contents}
-use Rattle.hm_model.specs.History.{store_of}
 use Rattle.hm_model.specs.Lawful.{UsageLaws}
-use Rattle.hm_model.specs.Sight.{Sight, name_at, root_of, name_of, names_of, IsUntended, SetsRoot, Enters, MayEnter}
+use Rattle.hm_model.specs.Sight.{name_at, name_of, names_of, IsUntended, SetsRoot, Enters, MayEnter}
 use Rattle.hm_model.proofs.HistoryFacts.{store_after-append}
 use Rattle.hm_model.proofs.Entering.{enters_alone}
 use Rattle.hm_plain.specs.declared.diary.View.{View}
 use Rattle.hm_plain.specs.Indices.{indexed_name, indexed_names, AreBelow, numbered}
 use Rattle.hm_plain.specs.Stocks.{Stock, Takes, Changes}
-use Rattle.hm_plain.specs.Views.{IsKept, MayAdd, Adds, store_in}
+use Rattle.hm_plain.specs.Views.{MayAdd, Adds, store_in}
 use Rattle.hm_plain.specs.Sights.{takes_version, version_count, index_at, fresh_roots, sight_of, Agree}
 use Rattle.hm_plain.proofs.IndexFacts.{numbered-push, with_changed-numbered}
 
@@ -74,9 +73,15 @@ module _ {U : Type 0} where
     version_count-adds : (v w : View U) (e : Entry) → Adds lawful allowed v w e → version_count w.seen ≡ version_count v.seen + cond (takes_version e) 1 0
     version_count-adds v w e h = ap (λ (x : View U). version_count x.seen) h.view ∙ sum_by_push (λ (d : Entry). cond (takes_version d) 1 0) v.seen e
 
+    -- all that was seen stays the caller's own
+    alone_adds : (v w : View U) (e : Entry) → v.mine ≡ v.seen → Adds lawful allowed v w e → w.mine ≡ w.seen
+    alone_adds v w e h adds =
+        ap (λ (x : View U). x.mine) adds.view ∙ (ap (λ (l : List Entry). l ++ e ∷ []) h ∙ sym (ap (λ (x : View U). x.seen) adds.view))
+
     -- all agrees after a fetch
     pub agree_fetch : (v w : View U) (o : Stock) (roots : List (Option ℕ)) (n : Name) (x : Contents) → Agree v o roots → Adds lawful allowed v w (Fetch 0 n x) → Agree w o roots
     agree_fetch v w o roots n x h adds = record {
+      alone = alone_adds v w (Fetch 0 n x) h.alone adds;
       store = h.store ∙ sym (store_in-adds v w (Fetch 0 n x) adds);
       used = let more = version_count-adds v w (Fetch 0 n x) adds in let was = h.used in omega arith;
       places = h.places;
@@ -91,6 +96,7 @@ module _ {U : Type 0} where
         let long : length p.contents ≡ length o.contents + 1 = ap length takes.contents_are ∙ length-append o.contents (x ∷ []) in
         let pushed : numbered p.contents ≡ numbered o.contents ++ (indexed_name k, x) ∷ [] = ap numbered takes.contents_are ∙ (numbered-push o.contents x ∙ ap (λ (j : ℕ). numbered o.contents ++ (indexed_name j, x) ∷ []) (sym next)) in
         record {
+          alone = alone_adds v w e h.alone adds;
           store = pushed ∙ (ap (λ (s : PlainStore). effect_of s e) h.store ∙ sym (store_in-adds v w e adds));
           used = let more = version_count-adds v w e adds in let was = h.used in let one = takes.used in omega arith;
           places = All-set (λ (index : Option ℕ). IfSome index (λ j. j < length p.contents)) roots i (Some k) (omega arith)
@@ -108,6 +114,7 @@ module _ {U : Type 0} where
         let long : length p.contents ≡ length o.contents = ap length changes.takes.contents_are ∙ length-set o.contents k (f changes.was) in
         let table : numbered p.contents ≡ with_changed f (indexed_name k) (numbered o.contents) = ap numbered changes.takes.contents_are ∙ sym (with_changed-numbered f k o.contents changes.was changes.held) in
         record {
+          alone = alone_adds v w e h.alone adds;
           store = table ∙ (ap (with_changed f (indexed_name k)) h.store ∙ (sym is ∙ sym (store_in-adds v w e adds)));
           used = let more = version_count-adds v w e adds ∙ ap (λ (b : Bool). version_count v.seen + cond b 1 0) takes in let was = h.used in let one = changes.takes.used in omega arith;
           places = subst (λ (n : ℕ). AreBelow n roots) (sym long) h.places;
@@ -115,11 +122,12 @@ module _ {U : Type 0} where
 
   -- all agrees with other root places that name objects
   pub agree_places : (v : View U) (o : Stock) (roots after : List (Option ℕ)) → Agree v o roots → AreBelow (length o.contents) after → Agree v o after
-  agree_places v o roots after h below = record { store = h.store; used = h.used; places = below }
+  agree_places v o roots after h below = record { alone = h.alone; store = h.store; used = h.used; places = below }
 
   -- all agrees in a fresh heap
-  pub agree_fresh : (v : View U) (o : Stock) (common : ℕ) → common < length o.contents → numbered o.contents ≡ store_in v → o.used ≡ version_count v.seen → Agree v o (fresh_roots common)
-  agree_fresh v o common small store used = record {
+  pub agree_fresh : (v : View U) (o : Stock) (common : ℕ) → common < length o.contents → v.mine ≡ v.seen → numbered o.contents ≡ store_in v → o.used ≡ version_count v.seen → Agree v o (fresh_roots common)
+  agree_fresh v o common small alone store used = record {
+    alone = alone;
     store = store;
     used = used;
     places = All-set (λ (index : Option ℕ). IfSome index (λ k. k < length o.contents)) (replicate 256 None) 0 (Some common) small (All-replicate (λ (index : Option ℕ). IfSome index (λ k. k < length o.contents)) 256 None tt);

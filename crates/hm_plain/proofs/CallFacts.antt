@@ -1,7 +1,6 @@
 -- Each call of a plain caller, from what its parts do.
-use Rattle.std.proofs.Common.{◌≡◌, ℕ, zero, suc, ◌+◌, ◌<◌, ◌≤◌, Option, Some, None, IsSome, IfSome, All, List, [], ◌∷◌, ◌++◌, map, length, get_or, slice_set, refl, sym, ap, ◌∙◌, subst, arith}
+use Rattle.std.proofs.Common.{◌≡◌, ℕ, zero, suc, ◌<◌, Option, Some, None, IfSome, List, [], ◌∷◌, map, length, get_or, slice_set, refl, sym, ap, ◌∙◌, subst, arith}
 use Rattle.std.specs.Option.{option_map}
-use Rattle.std.specs.List.{slice_get}
 use Rattle.std.proofs.lemmas.List.{length-map}
 use Rattle.std.proofs.lemmas.List.Elements.{All-head, All-tail, All-map}
 use Rattle.hm_model.specs.declared.object.Name.{Name}
@@ -13,9 +12,9 @@ use Rattle.hm_model.specs.declared.entry.Entry.{Entry}
 use Rattle.hm_model.specs.declared.entry.Entry.TheVariants.{Create, Fetch, Store, StoreIf}
 use Rattle.hm_model.specs.declared.root.Root.{Root}
 use Rattle.hm_model.specs.Store.{PlainStore, contents_of, IsThere, AreThere, made_count}
-use Rattle.hm_model.specs.Effect.{caller_of, Stands, FieldStands, StoreIfStands, Answers}
+use Rattle.hm_model.specs.Effect.{caller_of, FieldStands, StoreIfStands, Answers}
 use Rattle.hm_model.specs.Lawful.{UsageLaws}
-use Rattle.hm_model.specs.Sight.{Sight, IsSet, root_of, names_of, present, SetsRoot, Continues, Enters, MayEnter}
+use Rattle.hm_model.specs.Sight.{Sight, root_of, names_of, present, SetsRoot, Continues, Enters, MayEnter}
 use Rattle.hm_model.specs.Calls.{Creates, Fetches, Stores, StoresAll, FindsChanged, MayCreate, MayStore, MayStoreIf}
 use Rattle.hm_model.proofs.CallFacts.{creates_enters, fetches_enters, stores_enters, stores_all_enters, finds_changed_enters}
 use Rattle.hm_model.proofs.SightFacts.{continues_enters}
@@ -23,9 +22,9 @@ use Rattle.hm_plain.specs.declared.object.Change.{Change}
 use Rattle.hm_plain.specs.declared.object.Change.TheVariants.{Number, Refer}
 use Rattle.hm_plain.specs.declared.diary.View.{View}
 use Rattle.hm_plain.specs.Calls.{field_of, IsWithin}
-use Rattle.hm_plain.specs.Indices.{indexed_name, indexed_names, AreBelow, numbered}
+use Rattle.hm_plain.specs.Indices.{indexed_name, indexed_names, AreBelow}
 use Rattle.hm_plain.specs.Stocks.{Stock, Holds, Takes, Changes}
-use Rattle.hm_plain.specs.Views.{IsKept, MayAdd, Adds, store_in}
+use Rattle.hm_plain.specs.Views.{MayAdd, Adds, store_in}
 use Rattle.hm_plain.specs.Sights.{index_at, sight_of, Agree}
 use Rattle.hm_plain.proofs.IndexFacts.{contents_of-numbered, index_there, one_there, one_below, all_there, next_fresh, made_count-numbered}
 use Rattle.hm_plain.proofs.AgreeFacts.{root_of-index, names_of-indices, sets_root, untended, enters_adds, may_add, agree_fetch}

@@ -1,5 +1,5 @@
 -- Root places that get what a fetch found, one or four in a row.
-use Rattle.std.proofs.Common.{◌≡◌, ◌≢◌, ℕ, zero, suc, ◌+◌, ◌<◌, ◌≤◌, Bool, Option, Some, None, is_some, IfSome, All, List, [], ◌∷◌, ◌++◌, length, get_or, slice_set, refl, sym, ap, ◌∙◌, subst, arith, rules}
+use Rattle.std.proofs.Common.{◌≡◌, ℕ, zero, suc, ◌+◌, ◌<◌, ◌≤◌, Bool, Option, Some, None, is_some, IfSome, List, [], ◌∷◌, length, get_or, slice_set, refl, sym, ap, ◌∙◌, subst, rules}
 use Rattle.std.proofs.lemmas.List.{places}
 use Rattle.std.proofs.lemmas.List.Elements.{All-head, All-tail, All-set, All-append, All-take, All-drop}
 use Rattle.std.proofs.Math.ListN.{get_or-map}
@@ -9,7 +9,7 @@ use Rattle.hm_model.specs.declared.object.Name.{Name}
 use Rattle.hm_model.specs.declared.entry.Entry.{Entry}
 use Rattle.hm_model.specs.declared.root.Root.{Root}
 use Rattle.hm_model.specs.Store.{PlainStore, AreThere}
-use Rattle.hm_model.specs.Sight.{Sight, name_at, present, Rests, SetsRoot, SetsHand}
+use Rattle.hm_model.specs.Sight.{Sight, name_at, present, Rests, SetsRoot}
 use Rattle.hm_model.specs.Calls.{Fetches, FetchesAll, FetchesRef, snapshot_of}
 use Rattle.hm_model.proofs.CallFacts.{fetches_rests}
 use Rattle.hm_plain.specs.declared.object.Object.{Object}

@@ -1,5 +1,5 @@
 -- Objects that are found by their index, and root places that name them.
-use Rattle.std.proofs.Common.{◌≡◌, ◌≢◌, ℕ, zero, suc, ◌+◌, ◌<◌, ◌==◌, ◌&&◌, Bool, true, false, Option, Some, None, is_some, IsSome, IfSome, All, List, [], ◌∷◌, ◌++◌, cond, map, length, get_or, slice_set, refl, sym, ap, ◌∙◌, subst, arith, if◌then◌else◌, eq-eqb}
+use Rattle.std.proofs.Common.{◌≡◌, ◌≢◌, ℕ, zero, suc, ◌+◌, ◌<◌, ◌==◌, false, Option, Some, None, IsSome, IfSome, List, [], ◌∷◌, ◌++◌, cond, length, get_or, slice_set, refl, ap, ◌∙◌, subst, arith}
 use Rattle.std.proofs.lemmas.Option.{slice_get_within, slice_get_past, slice_get-get_or}
 use Rattle.std.proofs.lemmas.List.{length-map}
 use Rattle.std.proofs.lemmas.List.Sums.{sum_by-cons}
@@ -10,8 +10,7 @@ use Rattle.std.specs.List.{slice_get}
 use Rattle.hm_model.specs.declared.object.Name.{Name}
 use Rattle.hm_model.specs.declared.object.Contents.{Contents}
 use Rattle.hm_model.specs.Store.{PlainStore, is_same, contents_of, IsThere, AreThere, made_count, with_changed}
-use Rattle.hm_model.specs.Sight.{name_at}
-use Rattle.hm_model.proofs.StoreFacts.{is_same-self, is_same-other, made_count-push}
+use Rattle.hm_model.proofs.StoreFacts.{is_same-self, is_same-other}
 use Rattle.hm_plain.specs.Indices.{indexed_name, indexed_names, AreBelow, numbered_from, numbered}
 
 other_index : (j k : ℕ) → j ≢ k → is_same (indexed_name j) (indexed_name k) ≡ false

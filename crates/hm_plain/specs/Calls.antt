@@ -1,5 +1,5 @@
 -- What indices, and calls that give them, stand for.
-use Rattle.std.specs.Prelude.{◌≡◌, ℕ, ◌<◌, List, Option, IfSome}
+use Rattle.std.specs.Prelude.{ℕ, ◌<◌, IfSome}
 use Rattle.std.specs.Option.{option_map}
 use Rattle.hm_model.specs.declared.object.Contents.{Contents}
 use Rattle.hm_model.specs.declared.object.Field.{Field}

@@ -1,5 +1,5 @@
 -- Indices, which stand for names: caller 0 makes all objects of a plain heap.
-use Rattle.std.specs.Prelude.{◌≡◌, ℕ, ◌+◌, ◌<◌, List, [], ◌∷◌, Option, IfSome, All, map}
+use Rattle.std.specs.Prelude.{ℕ, ◌+◌, ◌<◌, List, [], ◌∷◌, Option, IfSome, All, map}
 use Rattle.std.specs.Option.{option_map}
 use Rattle.hm_model.specs.declared.object.Name.{Name}
 use Rattle.hm_model.specs.declared.object.Contents.{Contents}

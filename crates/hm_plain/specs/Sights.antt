@@ -53,14 +53,17 @@ module _ {U : Type 0} where
   -- a caller is plain where it is the only one of its heap, collects nothing, and uses each version once
   pub record IsPlain (c : Sight U) : Type 0 where
     pub number : c.number ≡ 0
+    pub alone : c.mine ≡ c.seen
     pub copying : c.copying ≡ false
     pub used : c.used ≡ version_count c.seen
     pub free : c.free ≡ 0
     pub moves : c.moves ≡ 0
     pub to_go : c.to_go ≡ 0
 
-  -- the table holds what the history leaves, its versions are those that the history takes, and places name objects
+  -- all that was seen is the caller's own, the table holds what the history leaves, its versions are those that the
+  -- history takes, and places name objects
   pub record Agree (v : View U) (objects : Stock) (roots : List (Option ℕ)) : Type 0 where
+    pub alone : v.mine ≡ v.seen
     pub store : numbered objects.contents ≡ store_in v
     pub used : objects.used ≡ version_count v.seen
     pub places : AreBelow (length objects.contents) roots

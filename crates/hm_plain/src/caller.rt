@@ -42,6 +42,7 @@ impl<U: Usage> PlainCaller<U> {
     /// The caller of a heap that has its starting objects alone, of which one is the common object.
     pub(crate) fn fresh(diary: Diary<U>, objects: Objects, common: u32) -> PlainCaller<U>
         requires common { common < length objects.contents }
+        requires alone { diary.mine ≡ diary.seen }
         requires store { numbered objects.contents ≡ store_of diary.seen }
         requires used { objects.used ≡ version_count diary.seen }
         ensures { result ≡ sight_of diary objects (fresh_roots common) 0 }

@@ -1,5 +1,5 @@
 use Rattle.std.proofs.Common.{arith, refl}
-use Rattle.hm_model.specs.declared.entry.Tried.TheVariants.{Stored, Changed}
+use Rattle.hm_model.specs.declared.entry.Tried.TheVariants.{Stored}
 use Rattle.hm_model.specs.declared.entry.Entry.TheVariants.{StoreIf}
 use Rattle.hm_model.specs.Effect.{with_all}
 use Rattle.hm_plain.specs.Calls.{contents_of_object}

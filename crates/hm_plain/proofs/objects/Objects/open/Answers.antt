@@ -1,4 +1,4 @@
-use Rattle.std.proofs.Common.{◌≡◌, [], ◌∷◌, List, Option, ℕ, subst, sym, refl, arith}
+use Rattle.std.proofs.Common.{[], ◌∷◌, List, Option, subst, sym, refl, arith}
 use Rattle.hm_model.specs.Store.{Numbers}
 use Rattle.hm_plain.proofs.OpeningFacts.{AddsSides, opened_count, opened_store, opened_used, opened_room, four_sides}
 use Rattle.hm_plain.proofs.objects.Objects.open.Goals as goal
