@@ -1,5 +1,5 @@
 -- What the callers of a heap with a book agree to leaves a lawful store.
-use Rattle.std.proofs.Common.{◌≡◌, ◌≢◌, ℕ, ◌+◌, ◌<◌, ◌≤◌, false, List, length, All, AllPairs, Option, Some, None, refl, sym, ap, ◌∙◌, subst, arith, [], ◌∷◌, ◌++◌}
+use Rattle.std.proofs.Common.{◌≡◌, ◌≢◌, ℕ, ◌+◌, ◌<◌, ◌≤◌, false, List, length, All, AllPairs, Some, None, sym, ap, ◌∙◌, subst, arith, [], ◌∷◌, ◌++◌}
 use Rattle.std.specs.Prelude.{slice_index}
 use Rattle.std.specs.Option.{option_map}
 use Rattle.std.proofs.lemmas.List.Elements.{All-weaker}
@@ -11,7 +11,7 @@ use Rattle.hm_model.specs.declared.entry.Tried.TheVariants.{Stored, Changed}
 use Rattle.hm_model.specs.declared.entry.Entry.{Entry}
 use Rattle.hm_model.specs.declared.entry.Entry.TheVariants.{Create, Fetch, Store, StoreIf}
 use Rattle.hm_model.specs.Store.{Numbers, Refs, PlainStore, contents_of, with_changed}
-use Rattle.hm_model.specs.Effect.{StoreIfStands, effect_of, new_contents, with_field, with_all, Stands}
+use Rattle.hm_model.specs.Effect.{effect_of, new_contents, with_field, with_all, Stands}
 use Rattle.hm_model.specs.Lawful.{MayCome, UsageLaws, NodeLaws, KeepsNodes}
 use Rattle.hm_model.specs.Sight.{name_at}
 use Rattle.hm_model.proofs.StoreFacts.{contents_of-push, contents_of-changed, contents_of-changed_other}
@@ -111,6 +111,17 @@ lawful_board s q n field is h =
       has = has_kept s (with_changed (with_field field) board_name s) h.common h.book (board_keeps (with_field field) s) h.has;
     }
 
+-- a common object that is replaced has the new contents
+pub replaced_there : (s : PlainStore) (q : ℕ) (n : Name) (stamp : ℕ) (refs : Refs) (numbers : Numbers) → n ≡ book_name
+    → Stands s (StoreIf q n stamp refs numbers Stored)
+    → contents_of (with_changed (with_all refs numbers) book_name s) book_name
+    ≡ Some record { stamp = stamp + 1; refs = refs; numbers = numbers }
+replaced_there s q n stamp refs numbers is stands =
+    let make : ℕ → Contents = λ k. record { stamp = k + 1; refs = refs; numbers = numbers } in
+    let was : contents_of s book_name ≡ Some stands.contents = subst (λ (m : Name). contents_of s m ≡ Some stands.contents) is stands.there in
+    contents_of-changed (with_all refs numbers) book_name s
+    ∙ (ap (option_map (with_all refs numbers)) was ∙ ap (λ (k : ℕ). Some (make k)) stands.answers)
+
 -- and where its common object is replaced by contents that have a book
 pub lawful_replaced : (s : PlainStore) (q : ℕ) (n : Name) (stamp : ℕ) (refs : Refs) (numbers : Numbers)
     (book : List Resting) → n ≡ book_name → IsLawfulBook s → Stands s (StoreIf q n stamp refs numbers Stored)
@@ -120,15 +131,10 @@ pub lawful_replaced : (s : PlainStore) (q : ℕ) (n : Name) (stamp : ℕ) (refs 
 lawful_replaced s q n stamp refs numbers book is h stands root board has =
     let t : PlainStore = with_changed (with_all refs numbers) book_name s in
     let next : Contents = record { stamp = stamp + 1; refs = refs; numbers = numbers } in
-    let make : ℕ → Contents = λ k. record { stamp = k + 1; refs = refs; numbers = numbers } in
-    let was : contents_of s book_name ≡ Some stands.contents = subst (λ (m : Name). contents_of s m ≡ Some stands.contents) is stands.there in
-    let now : contents_of t book_name ≡ Some next =
-    contents_of-changed (with_all refs numbers) book_name s
-    ∙ (ap (option_map (with_all refs numbers)) was ∙ ap (λ (k : ℕ). Some (make k)) stands.answers) in
     subst (λ (m : Name). IsLawfulBook (effect_of s (StoreIf q m stamp refs numbers Stored))) (sym is)
     record {
       common = next;
-      there = now;
+      there = replaced_there s q n stamp refs numbers is stands;
       board = board;
       board_there = there_after s (StoreIf q book_name stamp refs numbers Stored) board_name h.board_there;
       stamp = root;
@@ -151,23 +157,38 @@ applied_sound limits lengths s q stamp refs numbers a root =
     subst (λ (e : Effect). IsSound (record { book = e.book; applied = stamp + 1; fills = slice_index a.common.numbers 9 + length e.fills })) (sym a.made)
     (IsSound-state_after limits before a.order sound)
 
--- a stored order leaves a lawful store, where the book that it leaves has no id twice and no crossed orders
-pub lawful_applied : (limits : Limits) (lengths : List ℕ) (s : PlainStore) (q : ℕ) (n : Name) (stamp : ℕ) (refs : Refs) (numbers : Numbers)
-    → MayCome IsLawfulBook (IsAllowedBook limits lengths) s (StoreIf q n stamp refs numbers Stored)
-    → ((a : AppliesOrder limits s q stamp refs numbers) → AllPairs (λ x y. has_name x.file x.id y ≡ false) a.effect.book × IsUncrossed a.effect.book)
-    → IsLawfulBook (effect_of s (StoreIf q n stamp refs numbers Stored))
-lawful_applied limits lengths s q n stamp refs numbers h apart =
+-- what an order makes of a book has no name twice and no crossed orders
+pub applied_apart : (limits : Limits) (lengths : List ℕ) (s : PlainStore) (q stamp : ℕ) (refs : Refs) (numbers : Numbers)
+    → (a : AppliesOrder limits s q stamp refs numbers)
+    → AllPairs (λ x y. has_name x.file x.id y ≡ false) a.effect.book × IsUncrossed a.effect.book
+applied_apart limits lengths s q stamp refs numbers a =
+    let fills = slice_index a.common.numbers 9 in (
+      subst (λ (e : Effect). AllPairs (λ x y. has_name x.file x.id y ≡ false) e.book) (sym a.made)
+          (names_after limits a.order (stamp + 1) fills a.book a.before.ids),
+      subst (λ (e : Effect). IsUncrossed e.book) (sym a.made)
+          (uncrossed_after limits a.order (stamp + 1) fills a.book a.before.rising a.before.uncrossed),
+    )
+
+-- the stamp of a stored order counts the orders before it
+pub applied_root : (limits : Limits) (lengths : List ℕ) (s : PlainStore) (q : ℕ) (n : Name) (stamp : ℕ) (refs : Refs) (numbers : Numbers)
+    → (h : MayCome IsLawfulBook (IsAllowedBook limits lengths) s (StoreIf q n stamp refs numbers Stored))
+    → slice_index (h.entry.1).common.numbers 0 ≡ stamp
+applied_root limits lengths s q n stamp refs numbers h =
     let a = h.entry.1 in
     let l = h.store in
-    let is : n ≡ book_name = h.entry.0 in
-    let was : contents_of s book_name ≡ Some h.stands.contents = subst (λ (m : Name). contents_of s m ≡ Some h.stands.contents) is h.stands.there in
+    let was : contents_of s book_name ≡ Some h.stands.contents = subst (λ (m : Name). contents_of s m ≡ Some h.stands.contents) h.entry.0 h.stands.there in
     let same : h.stands.contents ≡ l.common = cc (was, l.there) in
     let known : a.common ≡ l.common = cc (a.there, l.there) in
-    let root : slice_index a.common.numbers 0 ≡ stamp =
-    ap (λ (x : Contents). slice_index x.numbers 0) known ∙ (l.stamp ∙ (sym (ap (λ (x : Contents). x.stamp) same) ∙ h.stands.answers)) in
-    let sound = applied_sound limits lengths s q stamp refs numbers a root in
-    let more = apart a in
-    lawful_replaced s q n stamp refs numbers a.effect.book is l h.stands a.root a.board
+    ap (λ (x : Contents). slice_index x.numbers 0) known ∙ (l.stamp ∙ (sym (ap (λ (x : Contents). x.stamp) same) ∙ h.stands.answers))
+
+-- its contents have the book that it leaves
+pub applied_has : (limits : Limits) (lengths : List ℕ) (s : PlainStore) (q : ℕ) (n : Name) (stamp : ℕ) (refs : Refs) (numbers : Numbers)
+    → (h : MayCome IsLawfulBook (IsAllowedBook limits lengths) s (StoreIf q n stamp refs numbers Stored))
+    → HasBook s record { stamp = stamp + 1; refs = refs; numbers = numbers } (h.entry.1).effect.book
+applied_has limits lengths s q n stamp refs numbers h =
+    let a = h.entry.1 in
+    let sound = applied_sound limits lengths s q stamp refs numbers a (applied_root limits lengths s q n stamp refs numbers h) in
+    let more = applied_apart limits lengths s q stamp refs numbers a in
     record {
       shows = a.after;
       rising = sound.rising;
@@ -177,6 +198,14 @@ lawful_applied limits lengths s q n stamp refs numbers h apart =
       few = subst (λ (k : ℕ). slice_index numbers 9 + length a.effect.book ≤ k) (sym a.root)
           (subst (λ (k : ℕ). k + length a.effect.book ≤ stamp + 1) (sym a.fills) sound.few);
     }
+
+-- so a stored order leaves a lawful store
+pub lawful_applied : (limits : Limits) (lengths : List ℕ) (s : PlainStore) (q : ℕ) (n : Name) (stamp : ℕ) (refs : Refs) (numbers : Numbers)
+    → MayCome IsLawfulBook (IsAllowedBook limits lengths) s (StoreIf q n stamp refs numbers Stored)
+    → IsLawfulBook (effect_of s (StoreIf q n stamp refs numbers Stored))
+lawful_applied limits lengths s q n stamp refs numbers h =
+    lawful_replaced s q n stamp refs numbers (h.entry.1).effect.book h.entry.0 h.store h.stands (h.entry.1).root (h.entry.1).board
+    (applied_has limits lengths s q n stamp refs numbers h)
 
 -- the laws of nodes
 pub book_node_laws : (limits : Limits) (lengths : List ℕ) → NodeLaws IsLawfulBook (IsAllowedBook limits lengths) IsNode
@@ -196,18 +225,6 @@ book_node_laws limits lengths = record {
     not_stored s q n (Number i value) h is = is.not_board h.0
     not_stored s q n (Refer i value) h is = h
 
--- what an order makes of a book has no name twice and no crossed orders
-pub applied_apart : (limits : Limits) (lengths : List ℕ) (s : PlainStore) (q stamp : ℕ) (refs : Refs) (numbers : Numbers)
-    → (a : AppliesOrder limits s q stamp refs numbers)
-    → AllPairs (λ x y. has_name x.file x.id y ≡ false) a.effect.book × IsUncrossed a.effect.book
-applied_apart limits lengths s q stamp refs numbers a =
-    let fills = slice_index a.common.numbers 9 in (
-      subst (λ (e : Effect). AllPairs (λ x y. has_name x.file x.id y ≡ false) e.book) (sym a.made)
-          (names_after limits a.order (stamp + 1) fills a.book a.before.ids),
-      subst (λ (e : Effect). IsUncrossed e.book) (sym a.made)
-          (uncrossed_after limits a.order (stamp + 1) fills a.book a.before.rising a.before.uncrossed),
-    )
-
 -- an allowed entry leaves a lawful store
 pub lawful_after : (limits : Limits) (lengths : List ℕ) (s : PlainStore) (e : Entry) → MayCome IsLawfulBook (IsAllowedBook limits lengths) s e
     → IsLawfulBook (effect_of s e)
@@ -216,7 +233,7 @@ lawful_after limits lengths s (Fetch q n answer) h = h.store
 lawful_after limits lengths s (Store q n (Number i value)) h = lawful_board s q n (Number i value) h.entry.0 h.store
 lawful_after limits lengths s (Store q n (Refer i value)) h = absurd h.entry
 lawful_after limits lengths s (StoreIf q n stamp refs numbers Stored) h =
-    lawful_applied limits lengths s q n stamp refs numbers h (λ a. applied_apart limits lengths s q stamp refs numbers a)
+    lawful_applied limits lengths s q n stamp refs numbers h
 lawful_after limits lengths s (StoreIf q n stamp refs numbers (Changed found)) h = h.store
 
 -- the laws of a usage

@@ -1,5 +1,5 @@
 -- Books in which no two orders stand in the way of one another, and what trading leaves of them.
-use Rattle.std.proofs.Common.{◌≡◌, ℕ, zero, suc, ◌+◌, ◌-◌, ◌<◌, ◌≤◌, Bool, true, false, ◌==◌, cond, leb, min, List, [], ◌∷◌, ◌++◌, length, if◌then◌else◌, ◌||◌, Option, Some, None, refl, sym, ap, ◌∙◌, subst, arith}
+use Rattle.std.proofs.Common.{◌≡◌, ℕ, zero, suc, ◌+◌, ◌-◌, Bool, true, false, ◌==◌, cond, leb, min, List, [], ◌∷◌, ◌++◌, length, if◌then◌else◌, ◌||◌, Option, Some, None, refl, arith}
 use Rattle.std.specs.List.{AllByRecursion, AllPairs, list_any}
 use Rattle.std.specs.Option.{option_map, option_map_or}
 use Rattle.std.proofs.lemmas.List.Elements.{All-from_recursion, recursion_from_All}
@@ -12,7 +12,7 @@ use Rattle.hm_orders.specs.declared.order.Kind.TheVariants.{Limit, Immediate, Ma
 use Rattle.hm_orders.specs.declared.report.Fate.TheVariants.{Rested, Filled, Dropped, Cancelled, Unknown, Repeated, Denied}
 use Rattle.hm_book.specs.declared.limits.Limits.{Limits}
 use Rattle.hm_book.specs.Limits.{admits}
-use Rattle.hm_book.specs.Effect.{Effect, no_fill, has_name, rests, without, rest_of, keeps_rest, traded_as, effect_after, trade_effect, admitted_effect, effect_of}
+use Rattle.hm_book.specs.Effect.{no_fill, has_name, rests, without, rest_of, keeps_rest, traded_as, effect_after, trade_effect, admitted_effect, effect_of}
 use Rattle.hm_book.proofs.Along.{trades_from}
 use Rattle.hm_book.proofs.Rising.{AllByRecursion-after_fill}
 

@@ -19,3 +19,6 @@ pub mod AfterLimit
 pub mod Apart
 pub mod Uncrossed
 pub mod Agreeing
+pub mod OneBook
+pub mod BookStart
+pub mod SpelledRun

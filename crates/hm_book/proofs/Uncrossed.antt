@@ -1,5 +1,5 @@
 -- No buy of a book crosses a sell, after any order.
-use Rattle.std.proofs.Common.{◌≡◌, ℕ, zero, suc, ◌+◌, ◌-◌, ◌<◌, ◌≤◌, ◌==◌, nat_lt, nat_le, min, Bool, true, false, cond, List, [], ◌∷◌, length, Option, Some, None, MatchOption, option_and_then, if◌then◌else◌, refl, sym, ap, ◌∙◌, subst, inl, inr, arith}
+use Rattle.std.proofs.Common.{◌≡◌, ℕ, zero, suc, ◌+◌, ◌-◌, ◌<◌, ◌≤◌, ◌==◌, min, Bool, true, false, cond, List, [], ◌∷◌, length, Option, Some, None, MatchOption, option_and_then, if◌then◌else◌, refl, sym, ap, ◌∙◌, subst, inl, inr, arith}
 use Rattle.std.specs.List.{AllByRecursion, AllPairs, Contains}
 use Rattle.std.specs.Option.{option_map, option_map_or}
 use Rattle.std.proofs.lemmas.Bool.{cases_lt}
@@ -21,7 +21,7 @@ use Rattle.hm_book.proofs.Rising.{Rises, Rises-from_pairs, Rises-after_fill}
 use Rattle.hm_book.proofs.Taking.{length-after_fill_all}
 use Rattle.hm_book.proofs.TradesSound.{next_maker-in_book}
 use Rattle.hm_book.proofs.Along.{trades_from, trades_none}
-use Rattle.hm_book.proofs.Apart.{Apart, apart_effect, Apart-from_pairs, pairs_from_Apart}
+use Rattle.hm_book.proofs.Apart.{apart_effect, Apart-from_pairs, pairs_from_Apart}
 
 -- a price that is no better than one that is not reached is not reached
 reach_less : (side : Side) (price : ℕ) (r best : Resting) → goes_before side r best ≡ false

@@ -2,7 +2,6 @@
 use Rattle.std.specs.Prelude.{◌≡◌, ℕ, ◌+◌, ◌<◌, ◌≤◌, true, false, List, length, Some, slice_index, All, AllPairs}
 use Rattle.hm_orders.specs.declared.order.Order.{Order}
 use Rattle.hm_orders.specs.Orders.{IsWellFormed}
-use Rattle.hm_model.specs.declared.object.Name.{Name}
 use Rattle.hm_model.specs.declared.object.Contents.{Contents}
 use Rattle.hm_model.specs.declared.object.Field.TheVariants.{Number, Refer}
 use Rattle.hm_model.specs.declared.entry.Tried.TheVariants.{Stored, Changed}

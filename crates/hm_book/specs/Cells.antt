@@ -1,5 +1,5 @@
 -- The book at a store: three lists of cells, which the common object names.
-use Rattle.std.specs.Prelude.{◌≡◌, ◌≢◌, ℕ, ◌-◌, ◌+◌, ◌<◌, Bool, true, false, List, [], ◌∷◌, Some, map, filter, length, slice_index, All}
+use Rattle.std.specs.Prelude.{◌≡◌, ◌≢◌, ℕ, ◌-◌, ◌<◌, Bool, true, false, List, [], ◌∷◌, map, filter, length, slice_index, All}
 use Rattle.hm_orders.specs.declared.order.Order.{Order}
 use Rattle.hm_orders.specs.declared.order.Kind.{Kind}
 use Rattle.hm_orders.specs.declared.order.Kind.TheVariants.{Limit, Immediate, Market, Cancel}
@@ -10,7 +10,6 @@ use Rattle.hm_model.specs.declared.object.Name.{Name}
 use Rattle.hm_model.specs.declared.object.Contents.{Contents}
 use Rattle.hm_model.specs.Store.{Numbers, PlainStore}
 use Rattle.hm_model.specs.Sight.{name_at}
-use Rattle.hm_list.specs.declared.key.Key.{Key}
 use Rattle.hm_list.specs.declared.key.Pair.{Pair}
 use Rattle.hm_list.specs.Pairs.{insert}
 use Rattle.hm_list.specs.Cells.{IsList}

@@ -29,7 +29,9 @@ fn reaches(side: Side, price: u32, resting: u32) -> bool
     }
 }
 
-fn crosses(order: &Order, resting: &Resting) -> bool
+/// Whether an order crosses a resting one, which is taken to be of the other side: whether its limit reaches the
+/// resting price. An order without a limit crosses every other, and a cancel none.
+pub fn crosses(order: &Order, resting: &Resting) -> bool
     ensures { result ≡ crosses order.now resting.now }
 {
     match order.kind {
