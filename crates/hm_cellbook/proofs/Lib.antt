@@ -1,0 +1,17 @@
+pub mod KeyFacts
+pub mod Changing
+pub mod Listing
+pub mod Kept
+pub mod OnSides
+pub mod BestFirst
+pub mod Listable
+pub mod AfterTrades
+pub mod Sides
+pub mod Fetching
+pub mod Attempts
+pub mod Lists
+pub mod Makers
+pub mod Clearing
+pub mod Trades
+pub mod Outcomes
+pub mod Next

@@ -1,0 +1,46 @@
+-- What an attempt at an order shows.
+use Rattle.std.specs.Prelude.{◌≡◌, ◌+◌, List, Some, slice_index}
+use Rattle.hm_orders.specs.declared.order.Order.{Order}
+use Rattle.hm_model.specs.declared.object.Contents.{Contents}
+use Rattle.hm_model.specs.declared.root.Snapshot.{Snapshot}
+use Rattle.hm_model.specs.Sight.{Sight, name_at, names_of, present}
+use Rattle.hm_book.specs.declared.book.Resting.{Resting}
+use Rattle.hm_book.specs.Cells.{board_name, HoldsOrder, ShowsBook}
+use Rattle.hm_book.specs.Run.{BookState, done_of, state_after}
+use Rattle.hm_agreement.specs.declared.usage.BookUsage.{BookUsage}
+use Rattle.hm_list.specs.declared.key.Refused.{Refused}
+use Rattle.hm_list.specs.declared.key.Refused.TheVariants as refusal
+use Rattle.hm_cellbook.specs.declared.attempt.Attempt.{Attempt}
+use Rattle.hm_cellbook.specs.declared.attempt.AttemptRefused.{AttemptRefused}
+use Rattle.hm_cellbook.specs.declared.attempt.AttemptRefused.TheVariants.{Full, Memory}
+
+-- an attempt is refused as its lists are
+abbrev pub attempt_refused : Refused → AttemptRefused
+attempt_refused refusal.Full = Full
+attempt_refused refusal.Memory = Memory
+
+-- a snapshot of the common object has the numbers of orders applied to its book, and of fills
+abbrev pub state_at : Snapshot → List Resting → BookState
+state_at at book = record { book = book; applied = at.stamp; fills = slice_index at.numbers 9 }
+
+-- an attempt gives the next contents of the common object
+abbrev pub next_contents : Sight BookUsage → Snapshot → Attempt → Contents
+next_contents c at attempt =
+    record { stamp = at.stamp + 1; refs = names_of c attempt.refs; numbers = attempt.numbers }
+
+-- they tell the order and its root number, and name the board
+pub record TellsOrder (c : Sight BookUsage) (at : Snapshot) (order : Order) (attempt : Attempt)
+    : Type 0 where
+  pub root : slice_index attempt.numbers 0 ≡ at.stamp + 1
+  pub holds : HoldsOrder attempt.numbers order
+  pub board : name_at (names_of c attempt.refs) 3 ≡ Some board_name
+
+-- an attempt applies the order to a book where it tells what becomes of the order, and its contents show the
+-- book that the order leaves and have the number of fills
+pub record Applies (c : Sight BookUsage) (at : Snapshot) (order : Order) (book : List Resting)
+    (attempt : Attempt) : Type 0 where
+  pub done : attempt.done ≡ done_of c.usage.limits (state_at at book) order
+  pub shows : ShowsBook (present c) (next_contents c at attempt)
+      (state_after c.usage.limits (state_at at book) order).book
+  pub fills : slice_index attempt.numbers 9
+      ≡ (state_after c.usage.limits (state_at at book) order).fills

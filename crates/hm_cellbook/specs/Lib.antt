@@ -1,0 +1,5 @@
+pub mod Sides
+pub mod Cost
+pub mod Fetched
+pub mod Attempted
+pub mod Working
