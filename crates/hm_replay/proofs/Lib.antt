@@ -1,2 +1,9 @@
 pub mod Reports
 pub mod Told
+pub mod Alone
+pub mod State
+pub mod Building
+pub mod Steps
+pub mod Storing
+pub mod Opening
+pub mod Applied

@@ -5,7 +5,7 @@ use Rattle.hm_edge.specs.declared.sink.SinkFailed.{SinkFailed}
 use Rattle.hm_edge.specs.Faults.{Rose}
 use Rattle.hm_edge.specs.Sinks.{bytes_after, part_put}
 use Rattle.hm_replay.specs.declared.refusal.Refused.{Refused}
-use Rattle.hm_replay.specs.declared.refusal.Refused.TheVariants.{Memory, Words, Text, Read, Write, Long}
+use Rattle.hm_replay.specs.declared.refusal.Refused.TheVariants.{Memory, Words, Text, Read, Write, Full, Long}
 use Rattle.hm_replay.specs.Refusals.{IsTold, message_of, status_of}
 
 -- one put of the line of a refusal tells it
@@ -22,10 +22,11 @@ told_by_put refused line (Err fault) old new faults after is written rose = reco
 }
 
 -- each refusal has one of the statuses of the program
-pub is_status : (refused : Refused) → Contains (0 ∷ 1 ∷ 2 ∷ 3 ∷ 4 ∷ 5 ∷ 7 ∷ []) (status_of refused)
+pub is_status : (refused : Refused) → Contains (0 ∷ 1 ∷ 2 ∷ 3 ∷ 4 ∷ 5 ∷ 6 ∷ 7 ∷ []) (status_of refused)
 is_status Memory = (1, lit< tt, refl)
 is_status Words = (2, lit< tt, refl)
 is_status (Text refusal) = (3, lit< tt, refl)
 is_status Read = (4, lit< tt, refl)
 is_status Write = (5, lit< tt, refl)
-is_status Long = (6, lit< tt, refl)
+is_status Full = (6, lit< tt, refl)
+is_status Long = (7, lit< tt, refl)

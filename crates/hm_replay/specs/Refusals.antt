@@ -12,9 +12,11 @@ use Rattle.hm_orders.specs.declared.write.WriteRefused.TheVariants as report
 use Rattle.hm_orders.specs.declared.read.Part.{Part}
 use Rattle.hm_orders.specs.declared.read.Part.TheVariants.{Fields, Kind, Id, Side, Price, Quantity, TooMany}
 use Rattle.hm_orders.specs.ReportText.{AddsFront}
-use Rattle.hm_replay.specs.Replay.{IsReadable, IsRefusedText, most_bytes}
+use Rattle.hm_cellbook.specs.declared.attempt.AttemptRefused.{AttemptRefused}
+use Rattle.hm_cellbook.specs.declared.attempt.AttemptRefused.TheVariants as attempt
+use Rattle.hm_replay.specs.Replay.{IsReadable, IsRefusedText, PassesRoom, most_bytes}
 use Rattle.hm_replay.specs.declared.refusal.Refused.{Refused}
-use Rattle.hm_replay.specs.declared.refusal.Refused.TheVariants.{Memory, Words, Text, Read, Write, Long}
+use Rattle.hm_replay.specs.declared.refusal.Refused.TheVariants.{Memory, Words, Text, Read, Write, Full, Long}
 
 -- a read of the shelf that was refused
 abbrev pub refused_shelf : ShelfRefused → Refused
@@ -32,6 +34,11 @@ abbrev pub refused_write : WriteRefused → Refused
 refused_write report.Failed = Write
 refused_write report.Memory = Memory
 
+-- an attempt at an order that was given up
+abbrev pub refused_attempt : AttemptRefused → Refused
+refused_attempt attempt.Full = Full
+refused_attempt attempt.Memory = Memory
+
 -- the status with which a refusal ends the program
 abbrev pub status_of : Refused → ℕ
 status_of Memory = 1
@@ -39,6 +46,7 @@ status_of Words = 2
 status_of (Text refusal) = 3
 status_of Read = 4
 status_of Write = 5
+status_of Full = 6
 status_of Long = 7
 
 -- what the text calls a part of a row
@@ -58,6 +66,7 @@ words_of Words = codes "words"
 words_of (Text refusal) = codes "text 1 " ++ decimal refusal.row ++ 32 ∷ part_name refusal.part
 words_of Read = codes "read 1"
 words_of Write = codes "write"
+words_of Full = codes "full 1"
 words_of Long = codes "long 1"
 
 -- the line for a refusal
@@ -69,13 +78,15 @@ pub record IsTold (refused : Refused) (old new : Option (List ℕ)) (faults faul
   pub front : AddsFront (message_of refused) old new
   pub whole : (new ≡ bytes_after (message_of refused) old) ⊎ Rose faults faults_after
 
--- what a refusal says of the bytes of the file: a row is refused, the report was begun, or they are too many
+-- what a refusal says of the bytes of the file: a row is refused, the report was begun, their orders cost too
+-- much, or they are too many
 abbrev pub IsOfBytes : Refused → List ℕ → Type 0
 IsOfBytes Memory bytes = Unit {0}
 IsOfBytes Words bytes = Unit {0}
 IsOfBytes (Text refusal) bytes = IsRefusedText refusal bytes
 IsOfBytes Read bytes = Unit {0}
 IsOfBytes Write bytes = IsReadable bytes
+IsOfBytes Full bytes = PassesRoom bytes
 IsOfBytes Long bytes = most_bytes < length bytes
 
 -- the refusals that may come after some of the report was written
@@ -85,7 +96,19 @@ HasBegun Words = ⊥
 HasBegun (Text refusal) = ⊥
 HasBegun Read = ⊥
 HasBegun Write = Unit {0}
+HasBegun Full = ⊥
 HasBegun Long = ⊥
+
+-- a replay on a heap with so much room ends without a report where memory ran out, or where what its orders
+-- cost is more than the room
+abbrev pub EndsRun : ℕ → ℕ → Refused → Type 0
+EndsRun room spent Memory = Unit {0}
+EndsRun room spent Words = ⊥
+EndsRun room spent (Text refusal) = ⊥
+EndsRun room spent Read = ⊥
+EndsRun room spent Write = ⊥
+EndsRun room spent Full = room < spent
+EndsRun room spent Long = ⊥
 
 -- the sink for errors is told why the program ends with this status
 pub record SaysWhy (status : ℕ) (told old new : Option (List ℕ)) (faults faults_after : ℕ) : Type 0 where

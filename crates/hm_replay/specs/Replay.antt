@@ -1,12 +1,13 @@
 -- What a replay of one file writes.
-use Rattle.std.specs.Prelude.{◌≡◌, ℕ, ◌≤◌, List, [], length, Option, Result, Ok, Err, option_and_then}
+use Rattle.std.specs.Prelude.{◌≡◌, ℕ, ◌+◌, ◌<◌, ◌≤◌, List, [], ◌∷◌, length, Option, Result, Ok, Err, option_and_then}
 use Rattle.hm_edge.specs.Sinks.{bytes_after}
 use Rattle.hm_orders.specs.declared.order.Order.{Order}
 use Rattle.hm_orders.specs.declared.read.TextRefused.{TextRefused}
 use Rattle.hm_orders.specs.Rows.{orders_held}
 use Rattle.hm_orders.specs.ReportText.{report_text}
 use Rattle.hm_book.specs.declared.limits.Limits.{Limits}
-use Rattle.hm_book.specs.Run.{report_of}
+use Rattle.hm_book.specs.Run.{BookState, empty_state, next_effect, report_of, state_after}
+use Rattle.hm_cellbook.specs.Cost.{cost}
 use Rattle.hm_replay.specs.Words.{file_named}
 
 -- how many bytes a file may have: 64 MiB
@@ -55,3 +56,24 @@ pub record Reports (bytes : List ℕ) (old new : Option (List ℕ)) : Type 0 whe
   pub orders : List Order
   pub held : IsHeld orders bytes
   pub written : new ≡ bytes_after (text_of orders) old
+
+-- how many versions the heap of a replay has left when it is made: two of its 1048576 are taken
+abbrev pub first_room : ℕ
+first_room = 1048574
+
+-- what the next order costs, by its fills and the number of orders that rest before it
+abbrev pub next_cost : BookState → Order → ℕ
+next_cost state order =
+    cost (length (next_effect no_limits state order).fills) (length state.book)
+
+-- what the orders cost together, one after another
+abbrev pub run_cost : BookState → List Order → ℕ
+run_cost state [] = 0
+run_cost state (order ∷ orders) =
+    next_cost state order + run_cost (state_after no_limits state order) orders
+
+-- the bytes are no more than a file may have, and hold orders that cost more than the room
+pub record PassesRoom (bytes : List ℕ) : Type 0 where
+  pub orders : List Order
+  pub held : IsHeld orders bytes
+  pub passes : first_room < run_cost empty_state orders

@@ -4,7 +4,7 @@ ghost use Rattle.hm_edge.specs.Faults.{Rose};
 ghost use Rattle.hm_orders.specs.Rows.{orders_held};
 ghost use Rattle.hm_orders.specs.ReportText.{AddsFront};
 ghost use Rattle.hm_replay.specs.Words.{file_named, texts};
-ghost use Rattle.hm_replay.specs.Replay.{HasRefusedRow, IsReadable, Reports, bytes_told, most_bytes, text_read};
+ghost use Rattle.hm_replay.specs.Replay.{HasRefusedRow, IsReadable, PassesRoom, Reports, bytes_told, most_bytes, text_read};
 ghost use Rattle.hm_replay.specs.Refusals.{HasBegun, IsOfBytes, IsTold, SaysWhy, grown_by, names_failed, status_of};
 
 use crate::load::load;
@@ -80,7 +80,7 @@ pub fn run<S: Shelf, K: Sink, E: Sink>(
     out: &mut K,
     err: &mut E,
 ) -> Outcome
-    ensures statuses { Contains (0 ∷ 1 ∷ 2 ∷ 3 ∷ 4 ∷ 5 ∷ 7 ∷ []) result.status }
+    ensures statuses { Contains (0 ∷ 1 ∷ 2 ∷ 3 ∷ 4 ∷ 5 ∷ 6 ∷ 7 ∷ []) result.status }
 
     // What the sink for the report gets.
     ensures report { result.status ≡ 0 → IfSome (bytes_told (S.told shelf.old) (texts words.now))
@@ -98,6 +98,8 @@ pub fn run<S: Shelf, K: Sink, E: Sink>(
     ensures write { result.status ≡ 5 → Rose (K.faults out.old) (K.faults out.new) }
     ensures readable { result.status ≡ 5
         → IfSome (bytes_told (S.told shelf.old) (texts words.now)) IsReadable }
+    ensures full { result.status ≡ 6
+        → IfSome (bytes_told (S.told shelf.old) (texts words.now)) PassesRoom }
     ensures long { result.status ≡ 7
         → IfSome (bytes_told (S.told shelf.old) (texts words.now)) (λ bytes. most_bytes < length bytes) }
 

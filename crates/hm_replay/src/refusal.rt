@@ -1,12 +1,14 @@
 //! What can go wrong in a replay, and what is said of it.
 ghost use Rattle.std.specs.Prelude.{◌≡◌, ◌<◌, length, IfOk, OnErr, string_bytes};
 ghost use Rattle.std.specs.Cow.{cow_str_bytes};
-ghost use Rattle.hm_replay.specs.declared.refusal.Refused.TheVariants.{Memory};
-ghost use Rattle.hm_replay.specs.Refusals.{message_of, part_name, refused_shelf, refused_text, refused_write, status_of};
+ghost use Rattle.hm_replay.specs.declared.refusal.Refused.TheVariants as variant;
+ghost use Rattle.hm_replay.specs.Refusals.{message_of, part_name, refused_attempt, refused_shelf, refused_text, refused_write, status_of};
 
-use hm_book::Memory;
+use hm_cellbook::AttemptRefused;
 use hm_edge::ShelfRefused;
+use hm_model::Full;
 use hm_orders::{Part, ReadRefused, TextRefused, WriteRefused};
+use hm_plain::Memory;
 use std::alloc::{AllocError, AllocFailed, Global};
 use std::borrow::CowStr;
 
@@ -23,6 +25,8 @@ pub enum Refused {
     Read,
     /// The report could not be written.
     Write,
+    /// The heap of the replay has no version left.
+    Full,
     /// The file is too long.
     Long,
 }
@@ -61,8 +65,27 @@ impl From<WriteRefused> for Refused {
     }
 }
 
+impl From<AttemptRefused> for Refused {
+    ghost from_gives = { λ refusal refused. refused ≡ refused_attempt refusal };
+
+    fn from(refusal: AttemptRefused) -> Refused {
+        match refusal {
+            AttemptRefused::Full => Refused::Full,
+            AttemptRefused::Memory => Refused::Memory,
+        }
+    }
+}
+
+impl From<Full> for Refused {
+    ghost from_gives = { λ _ refused. refused ≡ variant.Full };
+
+    fn from(_refusal: Full) -> Refused {
+        Refused::Full
+    }
+}
+
 impl From<Memory> for Refused {
-    ghost from_gives = { λ _ refused. refused ≡ Memory };
+    ghost from_gives = { λ _ refused. refused ≡ variant.Memory };
 
     fn from(_refusal: Memory) -> Refused {
         Refused::Memory
@@ -70,7 +93,7 @@ impl From<Memory> for Refused {
 }
 
 impl From<AllocError> for Refused {
-    ghost from_gives = { λ _ refused. refused ≡ Memory };
+    ghost from_gives = { λ _ refused. refused ≡ variant.Memory };
 
     fn from(_refusal: AllocError) -> Refused {
         Refused::Memory
@@ -78,7 +101,7 @@ impl From<AllocError> for Refused {
 }
 
 impl<T: Drop> From<AllocFailed<T>> for Refused {
-    ghost from_gives = { λ _ refused. refused ≡ Memory };
+    ghost from_gives = { λ _ refused. refused ≡ variant.Memory };
 
     fn from(_refusal: AllocFailed<T>) -> Refused {
         Refused::Memory
@@ -96,6 +119,7 @@ impl Refused {
             Refused::Text(_) => 3,
             Refused::Read => 4,
             Refused::Write => 5,
+            Refused::Full => 6,
             Refused::Long => 7,
         }
     }
@@ -111,6 +135,7 @@ impl Refused {
             Refused::Text(refusal) => Ok(CowStr::Owned(text_message(alloc, refusal)?)),
             Refused::Read => Ok(CowStr::Borrowed("hm: read 1\n")),
             Refused::Write => Ok(CowStr::Borrowed("hm: write\n")),
+            Refused::Full => Ok(CowStr::Borrowed("hm: full 1\n")),
             Refused::Long => Ok(CowStr::Borrowed("hm: long 1\n")),
         }
     }

@@ -24,7 +24,7 @@ fn shelf_of(alloc: Global, text: &str) -> Result<MemoryShelf, AllocError> {
 }
 
 /// A file's text, the status, the report and the line of the refusal.
-const FILES: [(&str, u8, &str, &str); 9] = [
+const FILES: [(&str, u8, &str, &str); 11] = [
     ("", 0, "board 0\nend 0 0 0\n", ""),
     (
         "L,1,B,10,5\nL,2,S,9,3\n",
@@ -36,6 +36,18 @@ const FILES: [(&str, u8, &str, &str); 9] = [
         "L,1,B,10,4\nL,2,B,10,6\nL,3,S,10,10\n",
         0,
         "order 1 1 1 rested\norder 2 1 2 rested\norder 3 1 3 filled\nfill 1 3 1 10 4\nfill 2 3 2 10 6\nboard 3\nend 3 2 0\n",
+        "",
+    ),
+    (
+        "L,1,S,12,1\nL,2,S,11,1\nL,3,B,12,2\n",
+        0,
+        "order 1 1 1 rested\norder 2 1 2 rested\norder 3 1 3 filled\nfill 1 3 2 11 1\nfill 2 3 1 12 1\nboard 3\nend 3 2 0\n",
+        "",
+    ),
+    (
+        "L,1,S,10,2\nL,2,S,10,3\nL,3,B,11,9\n",
+        0,
+        "order 1 1 1 rested\norder 2 1 2 rested\norder 3 1 3 rested\nfill 1 3 1 10 2\nfill 2 3 2 10 3\nboard 3\nend 3 2 1\n",
         "",
     ),
     (
@@ -111,5 +123,38 @@ fn a_failed_write_leaves_a_front_of_the_report(rt: HostRuntime) -> Result<(), Fa
     assert_eq!(rt; outcome.status, 5);
     assert_eq!(rt; out.bytes(), b"order 1 1 1 rested\norde".as_slice());
     assert_eq!(rt; err.bytes(), b"hm: write\n".as_slice());
+    Ok(())
+}
+
+/// How many rows the shortest file has that passes the room, where each order rests behind the others.
+const ROWS_THAT_PASS: u32 = 1_023;
+
+/// The rows of so many asks at rising prices, each of which makes all cells of both its lists anew.
+fn rising_asks(alloc: Global, rows: u32) -> Result<String, AllocError> {
+    let mut text = String::new(alloc);
+    for row in 1..=rows {
+        let line = format!(in alloc; "L,{row},S,{row},1\n")?;
+        text.push_str(line.as_str())?;
+    }
+    Ok(text)
+}
+
+#[test]
+fn a_file_that_passes_the_room_ends_with_six(rt: HostRuntime) -> Result<(), Fail> {
+    let alloc = rt.alloc();
+    let words = words_of(alloc, &["replay", "a"])?;
+    for (rows, status, line) in [
+        (ROWS_THAT_PASS - 1, 0, ""),
+        (ROWS_THAT_PASS, 6, "hm: full 1\n"),
+    ] {
+        let text = rising_asks(alloc, rows)?;
+        let mut shelf = shelf_of(alloc, text.as_str())?;
+        let mut out = MemorySink::new(alloc, 65_536, Vec::new(alloc))?;
+        let mut err = MemorySink::new(alloc, 1024, Vec::new(alloc))?;
+        let outcome = run(alloc, words.as_slice(), &mut shelf, &mut out, &mut err);
+        assert_eq!(rt; outcome.status, status, "at {rows}");
+        assert_eq!(rt; out.bytes().is_empty(), status == 6, "at {rows}");
+        assert_eq!(rt; err.bytes(), line.as_bytes(), "at {rows}");
+    }
     Ok(())
 }
