@@ -43,7 +43,8 @@ module _ (s : Shape) (words words' : List ℕ) (index : Index) (store store' : P
   either P m p new old = ⊎_elim (λ (t : k ≡ m). subst P t new) old (published_either index k m p)
 
   there_after : (m : Known) → IsPublished (with_one index k) m → IsThere store' m.name
-  there_after m p = either (λ (x : Known). IsThere store' x.name) m p (there_contents store' k.name k.contents made)
+  there_after m p = either (λ (x : Known). IsThere store' x.name) m p
+      (there_contents store' k.name k.contents made)
       (λ t. keeps m.name (h.there m t.1))
 
   own_link : IsLinked (with_one index k) store' k (link_of s words' k)
@@ -61,7 +62,8 @@ module _ (s : Shape) (words words' : List ℕ) (index : Index) (store store' : P
     pub chained_created : AreChained s words' (with_one index k) store'
     chained_created = record {
       there = there_after;
-      link = λ m p. either (λ (x : Known). IsLinked (with_one index k) store' x (link_of s words' x)) m p own_link
+      link = λ m p. either (λ (x : Known). IsLinked (with_one index k) store' x (link_of s words' x)) m p
+          own_link
           (λ t. subst (IsLinked (with_one index k) store' m) (sym (same m t.1))
           (linked_more index store store' k m (link_of s words m) none (stays m) (h.link m t.1)));
       top = λ m n p q e z. ⊎_elim
@@ -124,7 +126,8 @@ module _ (s : Shape) (words words' : List ℕ) (index : Index) (store store' : P
     pub chained_hung : AreChained s words' (with_one index k) store'
     chained_hung = record {
       there = there_after;
-      link = λ m p. either (λ (x : Known). IsLinked (with_one index k) store' x (link_of s words' x)) m p own_link
+      link = λ m p. either (λ (x : Known). IsLinked (with_one index k) store' x (link_of s words' x)) m p
+          own_link
           (old_linked m);
       top = λ m n p q e z. ⊎_elim
           (λ (t : k ≡ m). let mk : k.rank ≡ m.rank = ap (λ (x : Known). x.rank) t in ⊎_elim

@@ -67,14 +67,18 @@ module _ (known wider : Name → Type 0) (f : (n : Name) → known n → wider n
     }
 
     module _ (make may : Entry → Type 0) (g : (e : Entry) → make e → may e) where
-      take_wider : (act : Act) → MayTake known make p act → MayTake wider may p act
+      pub take_wider : (act : Act) → MayTake known make p act → MayTake wider may p act
       take_wider (LoadStamp at) h = h
       take_wider (LoadReference at i) h = h
       take_wider (LoadNumber at i) h = h
       take_wider (LoadLink at None) h = (h.0, tt)
       take_wider (LoadLink at (Some e)) h = (h.0, (reads_wider at e h.1.0, g e h.1.1))
       take_wider (StoreOwn i word) h = h
-      take_wider (Publish k) h = (first_wider k h.0, g (Create p.number k.name k.contents.refs k.contents.numbers) h.1)
+      take_wider (Publish k) h = (
+        first_wider k h.0,
+        g
+            (Create p.number k.name k.contents.refs k.contents.numbers) h.1,
+      )
       take_wider (LinkStore at k e) h = record {
         look = h.look;
         later = h.later;
@@ -92,7 +96,8 @@ module _ {U : Type 0} (lawful : U → PlainStore → Type 0) (allowed : U → Pl
       let make : Entry → Type 0 = MayMake (lawful p.site.usage) (allowed p.site.usage) v.seen p.number in
       let now : Entry → Type 0 = λ e. Stands store e → allowed p.site.usage store e in
       let g : (e : Entry) → make e → now e = λ e made stands.
-      (come_now (lawful p.site.usage) (allowed p.site.usage) p.site.start p.number p.mine c.heap.history v.seen e
+      (come_now (lawful p.site.usage) (allowed p.site.usage) p.site.start p.number p.mine c.heap.history
+      v.seen e
       (good.seen id v at.seat) mine.calls good.heap.history made stands).entry in
       record {
         act = take_wider (IsKnownName p) (IsThere store)

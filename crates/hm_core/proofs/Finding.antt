@@ -23,7 +23,8 @@ use Rattle.hm_core.proofs.Heaps.{look_published, fresh_none}
 refers_found : (index : Index) (w : ℕ) (r : Option Name) → Refers index w r
     → IsReference w (lookup index w) r × IfSome (lookup index w) (IsPublished index)
 refers_found index w None h =
-    subst (λ (x : ℕ). IsReference x (lookup index x) None × IfSome (lookup index x) (IsPublished index)) (sym h)
+    subst (λ (x : ℕ). IsReference x (lookup index x) None × IfSome (lookup index x) (IsPublished index))
+    (sym h)
     ((refl, refl), tt)
 refers_found index w (Some n) h =
     let k : Known = h.0 in
@@ -63,7 +64,8 @@ IsFresh h p k = (h.index k.version.0 ≡ None) × HasRoom p
 
 module _ (index : Index) where
   -- published versions stay so
-  pub index_more : (o : Option Known) (k : Known) → IfSome o (λ m. index m.version.0 ≡ None) → IsPublished index k
+  pub index_more : (o : Option Known) (k : Known) → IfSome o (λ m. index m.version.0 ≡ None) → IsPublished
+      index k
       → IsPublished (index_with index o) k
   index_more None k f there = there
   index_more (Some m) k f there = published_more index m k f there

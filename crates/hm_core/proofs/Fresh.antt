@@ -33,12 +33,12 @@ use Rattle.hm_core.proofs.Placed.{published_once, place_small, same_row}
 use Rattle.hm_core.proofs.Held.{none_written, contains_first}
 
 -- versions are numbered from k on, each the first of its object
-record IsNumbered (k : ℕ) (m : Known) : Type 0 where
-  is : m ≡ starting_known k m.contents
-  stamp : m.contents.stamp ≡ 0
-  sized : IsSized m.contents.refs m.contents.numbers
+pub record IsNumbered (k : ℕ) (m : Known) : Type 0 where
+  pub is : m ≡ starting_known k m.contents
+  pub stamp : m.contents.stamp ≡ 0
+  pub sized : IsSized m.contents.refs m.contents.numbers
 
-abbrev AreNumbered : ℕ → List Known → Type 0
+abbrev pub AreNumbered : ℕ → List Known → Type 0
 AreNumbered k [] = Unit {0}
 AreNumbered k (m ∷ ms) = IsNumbered k m × AreNumbered (k + 1) ms
 
@@ -53,7 +53,7 @@ numbered_append k (x ∷ xs) ys h e =
     let at : k + length (x ∷ xs) ≡ (k + 1) + length xs = omega arith in
     (h.0, numbered_append (k + 1) xs ys h.1 (subst (λ (i : ℕ). AreNumbered i ys) at e))
 
-numbered_at : (k : ℕ) (ms : List Known) (i : ℕ) (m : Known) → AreNumbered k ms → slice_get ms i ≡ Some m
+pub numbered_at : (k : ℕ) (ms : List Known) (i : ℕ) (m : Known) → AreNumbered k ms → slice_get ms i ≡ Some m
     → IsNumbered (k + i) m
 numbered_at k [] i m h e = absurd (cc)
 numbered_at k (x ∷ xs) zero m h e =
@@ -79,22 +79,26 @@ stored_at k (x ∷ xs) (suc i) m h e =
     let apart : x.name ≢ m.name = λ z. let same = ap (λ (n : Name). n.count) z in omega arith in
     rw (is_same-other x.name m.name apart) (stored_at (k + 1) xs i m h.1 e)
 
-sides_numbered : (k : ℕ) (sides : List (Option Numbers)) → All (λ side. IfSome side (λ numbers. length numbers ≡ 10)) sides
+sides_numbered : (k : ℕ) (sides : List (Option Numbers)) → All
+    (λ side. IfSome side (λ numbers. length numbers ≡ 10)) sides
     → AreNumbered k (side_known k sides)
 sides_numbered k [] h = tt
 sides_numbered k (None ∷ sides) h =
-    sides_numbered k sides (All-tail (λ (side : Option Numbers). IfSome side (λ numbers. length numbers ≡ 10)) None sides h)
+    sides_numbered k sides (All-tail (λ (side : Option Numbers). IfSome side (λ numbers. length numbers ≡ 10))
+    None sides h)
 sides_numbered k (Some numbers ∷ sides) h = (
   record {
     is = refl;
     stamp = refl;
     sized = record {
       four = refl;
-      ten = All-head (λ (side : Option Numbers). IfSome side (λ numbers. length numbers ≡ 10)) (Some numbers) sides h;
+      ten = All-head (λ (side : Option Numbers). IfSome side (λ numbers. length numbers ≡ 10)) (Some numbers)
+          sides h;
     };
   },
   sides_numbered (k + 1) sides
-      (All-tail (λ (side : Option Numbers). IfSome side (λ numbers. length numbers ≡ 10)) (Some numbers) sides h),
+      (All-tail (λ (side : Option Numbers). IfSome side (λ numbers. length numbers ≡ 10)) (Some numbers) sides
+      h),
 )
 
 side_count-some : (numbers : Numbers) (sides : List (Option Numbers))
@@ -102,13 +106,13 @@ side_count-some : (numbers : Numbers) (sides : List (Option Numbers))
 side_count-some numbers sides =
     sum_by-cons (λ (side : Option (List ℕ)). cond (is_some side) 1 0) (Some numbers) sides
 
-sides_length : (k : ℕ) (sides : List (Option Numbers)) → length (side_known k sides) ≡ side_count sides
+pub sides_length : (k : ℕ) (sides : List (Option Numbers)) → length (side_known k sides) ≡ side_count sides
 sides_length k [] = refl
 sides_length k (None ∷ sides) = sides_length k sides
 sides_length k (Some numbers ∷ sides) =
     let one = side_count-some numbers sides in let rest = sides_length (k + 1) sides in omega arith
 
-names_length : (k : ℕ) (sides : List (Option Numbers)) → length (side_names k sides) ≡ length sides
+pub names_length : (k : ℕ) (sides : List (Option Numbers)) → length (side_names k sides) ≡ length sides
 names_length k [] = refl
 names_length k (None ∷ sides) = ap suc (names_length k sides)
 names_length k (Some numbers ∷ sides) = ap suc (names_length (k + 1) sides)
@@ -137,18 +141,19 @@ get_last [] m = refl
 get_last (x ∷ xs) m = get_last xs m
 
 module _ (start : Start) (sized : IsSizedStart start) where
-  numbered : AreNumbered 0 (all_known start)
+  pub numbered : AreNumbered 0 (all_known start)
   numbered = numbered_append 0 (side_known 0 start.sides) (common_known start ∷ [])
       (sides_numbered 0 start.sides sized.sides) (
         record {
-          is = ap (λ (i : ℕ). starting_known i (common_known start).contents) (sym (let e = sides_length 0 start.sides in omega arith));
+          is = ap (λ (i : ℕ). starting_known i (common_known start).contents)
+              (sym (let e = sides_length 0 start.sides in omega arith));
           stamp = refl;
           sized = record { four = names_length 0 start.sides ∙ sized.four; ten = sized.numbers };
         },
         tt,
       )
 
-  many : length (all_known start) ≡ starting_count start
+  pub many : length (all_known start) ≡ starting_count start
   many =
       let a = push_length (side_known 0 start.sides) (common_known start) in
       let b = sides_length 0 start.sides in omega arith
@@ -161,7 +166,7 @@ module _ (start : Start) (sized : IsSizedStart start) where
       ∙ (ap (λ (s : PlainStore). effect_of s e) (sides_stored [] 0 start.sides)
       ∙ sym (stored_push (side_known 0 start.sides) (common_known start)))
 
-  known_at : (k : Known) → IsPublished (fresh_index start) k → IsNumbered k.version.0 k
+  pub known_at : (k : Known) → IsPublished (fresh_index start) k → IsNumbered k.version.0 k
   known_at k there = let at : 0 + k.version.0 ≡ k.version.0 = omega arith in
       subst (λ (j : ℕ). IsNumbered j k) at (numbered_at 0 (all_known start) k.version.0 k numbered there)
 
@@ -170,12 +175,12 @@ module _ (start : Start) (sized : IsSizedStart start) where
   present k there = ap (λ (s : PlainStore). contents_of s k.name) store_is
       ∙ stored_at 0 (all_known start) k.version.0 k numbered there
 
-  common_published : IsPublished (fresh_index start) (common_known start)
+  pub common_published : IsPublished (fresh_index start) (common_known start)
   common_published =
       ap (slice_get (all_known start)) (sym (sides_length 0 start.sides))
       ∙ get_last (side_known 0 start.sides) (common_known start)
 
-  listed_published : (k : Known) → Contains (all_known start) k → IsPublished (fresh_index start) k
+  pub listed_published : (k : Known) → Contains (all_known start) k → IsPublished (fresh_index start) k
   listed_published k there =
       let here : slice_get (all_known start) there.0 ≡ Some k =
       slice_get-get_or (all_known start) there.0 k there.1 ∙ ap (λ (z : Known). Some z) there.2 in
@@ -184,10 +189,10 @@ module _ (start : Start) (sized : IsSizedStart start) where
       ap (slice_get (all_known start)) number ∙ here
 
   -- the first row has all versions, and any other none
-  used_first : (row : ℕ) → row ≡ 0 → fresh_used start row ≡ starting_count start
+  pub used_first : (row : ℕ) → row ≡ 0 → fresh_used start row ≡ starting_count start
   used_first row e = rw (eq-eqb row 0 e) refl
 
-  used_other : (row : ℕ) → row ≢ 0 → fresh_used start row ≡ 0
+  pub used_other : (row : ℕ) → row ≢ 0 → fresh_used start row ≡ 0
   used_other row ne = rw (ne_eqb row 0 ne) refl
 
   total_some : (n : ℕ) → 0 < n → 0 < total (fresh_used start) n
@@ -207,7 +212,8 @@ module _ (start : Start) (sized : IsSizedStart start) where
           let low = slice_get_within (all_known start) k.version.0 k there in
           let long = many in
           let small = place_small 0 (row_count s) s.versions k.version.0 rows (omega arith) in omega arith;
-      unused = λ row i below low past. slice_get_past (all_known start) (row * s.versions + i) (dite (ℕ_discrete row 0)
+      unused = λ row i below low past. slice_get_past (all_known start) (row * s.versions + i)
+          (dite (ℕ_discrete row 0)
           (λ e. let one = used_first row e in let long = many in
           let at : row * s.versions ≡ 0 * s.versions = ap (λ (r : ℕ). r * s.versions) e in omega arith)
           (λ ne. let long = many in
@@ -256,7 +262,8 @@ opening_below n start low =
     below-append n (side_entries 0 start.sides) (e ∷ []) (sides_below n 0 start.sides low)
     (All-cons (λ e. caller_of e < n) e [] low (All-nil (λ e. caller_of e < n)))
 
-module _ {U : Type 0} (lawful : U → PlainStore → Type 0) (allowed : U → PlainStore → Entry → Type 0) (g : Site U)
+module _ {U : Type 0} (lawful : U → PlainStore → Type 0) (allowed : U → PlainStore → Entry → Type 0)
+    (g : Site U)
     (sized : IsSizedStart g.start) (room : starting_count g.start ≤ g.shape.versions) where
   module _ (words : List ℕ) (wide : length words ≡ word_count g.shape)
       (contents : AreTrue g.shape words (fresh_index g.start))
@@ -279,10 +286,12 @@ module _ {U : Type 0} (lawful : U → PlainStore → Type 0) (allowed : U → Pl
       callers = opening_below g.shape.callers g.start (omega (arith, g.shape.callers_fit));
     }
 
-    row_used : (q : ℕ) → (if q == 0 then starting_count g.start else 0) ≡ fresh_used g.start (q * g.shape.regions + 0)
+    row_used : (q : ℕ) → (if q == 0 then starting_count g.start else 0) ≡ fresh_used g.start
+        (q * g.shape.regions + 0)
     row_used q = dite (ℕ_discrete q 0)
         (λ e. rw (eq-eqb q 0 e) (sym (used_first g.start sized (q * g.shape.regions + 0)
-        (let at : q * g.shape.regions ≡ 0 * g.shape.regions = ap (λ (r : ℕ). r * g.shape.regions) e in omega arith))))
+        (let at : q * g.shape.regions ≡ 0 * g.shape.regions = ap (λ (r : ℕ). r * g.shape.regions) e in omega
+        arith))))
         (λ ne. rw (ne_eqb q 0 ne) (sym (used_other g.start sized (q * g.shape.regions + 0)
         (λ z. let more = mul-lt 0 0 q g.shape.regions (omega arith) (omega (arith, g.shape.regions_fit)) in
         omega arith))))
@@ -291,7 +300,8 @@ module _ {U : Type 0} (lawful : U → PlainStore → Type 0) (allowed : U → Pl
         → IsPublished (fresh_index g.start) k
     published_good q k there = go (eqb q 0) there
       where
-        go : (t : Bool) → Contains (if t then all_known g.start else []) k → IsPublished (fresh_index g.start) k
+        go : (t : Bool) → Contains (if t then all_known g.start else []) k → IsPublished (fresh_index g.start)
+            k
         go true c = listed_published g.start sized k c
         go false c = let low = c.1 in absurd (omega arith)
 
@@ -305,10 +315,12 @@ module _ {U : Type 0} (lawful : U → PlainStore → Type 0) (allowed : U → Pl
         ap (λ (v : Version). v.0) at.number in
         let row : 0 < q * g.shape.regions =
         mul-lt 0 0 q g.shape.regions (omega arith) (omega (arith, g.shape.regions_fit)) in
-        let same : 0 * g.shape.versions + k.version.0 ≡ (q * g.shape.regions + region) * g.shape.versions + place =
+        let same : 0 * g.shape.versions + k.version.0 ≡ (q * g.shape.regions + region) * g.shape.versions +
+        place =
         omega arith in
         let zero_row : 0 ≡ q * g.shape.regions + region =
-        same_row 0 (q * g.shape.regions + region) g.shape.versions k.version.0 place (omega arith) at.place_fits same in
+        same_row 0 (q * g.shape.regions + region) g.shape.versions k.version.0 place (omega arith)
+        at.place_fits same in
         omega arith
 
     own_good : (q : ℕ) (k : Known) (region place : ℕ) → IsPublished (fresh_index g.start) k
@@ -349,7 +361,8 @@ module _ {U : Type 0} (lawful : U → PlainStore → Type 0) (allowed : U → Pl
       let contents : AreTrue g.shape words (fresh_index g.start) =
       subst (AreTrue g.shape words) index fresh.heap.contents in
       let links : (k : Known) → IsPublished (fresh_index g.start) k → link_of g.shape words k ≡ 0 =
-      subst (λ (i : Index). (k : Known) → IsPublished i k → link_of g.shape words k ≡ 0) index fresh.heap.links in
+      subst (λ (i : Index). (k : Known) → IsPublished i k → link_of g.shape words k ≡ 0) index
+      fresh.heap.links in
       let same : heap words fresh.heap.wide contents links ≡ c.heap = λ i. record {
         words = words;
         index = sym index i;
@@ -363,7 +376,8 @@ module _ {U : Type 0} (lawful : U → PlainStore → Type 0) (allowed : U → Pl
         parts = λ j k v p at.
             let q = fresh.parts j k v p at in
             subst (PartIsGood g c.heap v.seen) (sym q.1)
-            (subst (λ (l : List Entry). PartIsGood g c.heap l (fresh_part g p.number)) (sym (fresh.seen j v at.seat))
+            (subst (λ (l : List Entry). PartIsGood g c.heap l (fresh_part g p.number))
+            (sym (fresh.seen j v at.seat))
             (subst (λ (h : Heap). PartIsGood g h (opening_of g.start) (fresh_part g p.number)) same
             (part_good words fresh.heap.wide contents links p.number q.0)));
         apart = fresh.apart;

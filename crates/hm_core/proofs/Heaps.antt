@@ -67,7 +67,8 @@ module _ {U : Type 0} (lawful : U → PlainStore → Type 0) (allowed : U → Pl
 
   pub next_small : HasRoom p → IsVersionOf p.site.shape (next_version p)
   next_small room =
-      let a = place_small (row_of_part p) (row_count p.site.shape) p.site.shape.versions (h.used (row_of_part p))
+      let a = place_small (row_of_part p) (row_count p.site.shape) p.site.shape.versions
+      (h.used (row_of_part p))
       (row_below h seen p mine) (room_left h seen p mine room) in
       let b = next_at h seen p mine in omega arith
 
@@ -118,7 +119,12 @@ module _ {U : Type 0} (lawful : U → PlainStore → Type 0) (allowed : U → Pl
 
   -- nothing is changed
   still : (w x : ℕ) → x ≡ slice_index h.words w
-      → Kept record { words = slice_set h.words w x; index = h.index; used = h.used; history = h.history ++ [] }
+      → Kept record {
+        words = slice_set h.words w x;
+        index = h.index;
+        used = h.used;
+        history = h.history ++ [];
+      }
   still w x e =
       let words = same_word h.words w x e in
       let entries = append-nil h.history in
@@ -129,11 +135,23 @@ module _ {U : Type 0} (lawful : U → PlainStore → Type 0) (allowed : U → Pl
   read : (w x : ℕ) (e : Entry) → x ≡ slice_index h.words w
       → make e
       → Stands store e × (effect_of store e ≡ store) × (caller_of e ≡ p.number)
-      → Kept record { words = slice_set h.words w x; index = h.index; used = h.used; history = h.history ++ e ∷ [] }
+      → Kept record {
+        words = slice_set h.words w x;
+        index = h.index;
+        used = h.used;
+        history = h.history ++ e
+            ∷ [];
+      }
   read w x e is may stands =
       let words = same_word h.words w x is in
       let same : store_of (h.history ++ e ∷ []) ≡ store = store_one e ∙ stands.1 in
-      subst (λ (l : List ℕ). Kept record { words = l; index = h.index; used = h.used; history = h.history ++ e ∷ [] })
+      subst (λ (l : List ℕ). Kept record {
+        words = l;
+        index = h.index;
+        used = h.used;
+        history = h.history ++ e
+            ∷ [];
+      })
       (sym words)
       record {
         wide = good.wide;
@@ -157,7 +175,8 @@ module _ {U : Type 0} (lawful : U → PlainStore → Type 0) (allowed : U → Pl
       let beside : (k : Known) (j : ℕ) → IsPublished h.index k → j < 16
       → slice_index words (word_at s k.version j) ≡ slice_index h.words (word_at s k.version j) =
       λ k j is small. elsewhere s h.words k.version (next_version p) j i word small low
-      (inl (λ e. let both : Some k ≡ None = sym is ∙ (ap h.index e ∙ next_none lawful allowed h seen p good mine room) in cc)) in
+      (inl (λ e. let both : Some k ≡ None = sym is ∙
+      (ap h.index e ∙ next_none lawful allowed h seen p good mine room) in cc)) in
       let entries = append-nil h.history in
       subst (λ (l : List Entry). Kept record { words = words; index = h.index; used = h.used; history = l })
       (sym entries)
@@ -166,7 +185,8 @@ module _ {U : Type 0} (lawful : U → PlainStore → Type 0) (allowed : U → Pl
         placed = good.placed;
         contents = λ k is. contents_same s h.index h.words words k (λ j some small. beside k j is small)
             (good.contents k is);
-        chained = chained_beside s h.words words h.index store (λ k is. beside k 0 is (omega arith)) good.chained;
+        chained = chained_beside s h.words words h.index store (λ k is. beside k 0 is (omega arith))
+            good.chained;
         history = good.history;
         callers = good.callers;
       }
@@ -180,7 +200,8 @@ module _ {U : Type 0} (lawful : U → PlainStore → Type 0) (allowed : U → Pl
       → IsBuilt p.hands.held p.draft.written k.contents → HasContents s h.index h.words k
   built k room at b =
       let word : (j w : ℕ) → IsWritten p.draft.written j w → slice_index h.words (word_at s k.version j) ≡ w =
-      λ j w is. ap (λ (v : Version). slice_index h.words (word_at s v j)) at ∙ mine.draft.written room j w is in
+      λ j w is. ap (λ (v : Version). slice_index h.words (word_at s v j)) at ∙ mine.draft.written room j w is
+      in
       record {
         stamp = word 1 k.contents.stamp b.stamp;
         refs = λ i low. let r = b.refs i low in
@@ -200,7 +221,8 @@ module _ {U : Type 0} (lawful : U → PlainStore → Type 0) (allowed : U → Pl
       let maker : k.name.maker ≡ p.number = ap (λ (n : Name). n.maker) first.name in
       let made : made_count p.number store ≡ create_count p.mine =
       made_count-legal p.number p.site.start h.history good.history.legal ∙ ap create_count mine.calls.all in
-      let count : k.name.count ≡ made_count p.number store = ap (λ (n : Name). n.count) first.name ∙ sym made in
+      let count : k.name.count ≡ made_count p.number store = ap (λ (n : Name). n.count) first.name ∙ sym made
+      in
       record {
         maker = maker;
         count = count;
@@ -244,12 +266,14 @@ module _ {U : Type 0} (lawful : U → PlainStore → Type 0) (allowed : U → Pl
             (room_left h seen p mine first.room) (own_place k first.version) (omega arith)
             (let a = first.stamp in record { stamp = omega arith; contents = first.built.sized });
         contents = true_more s h.index h.words words k none
-            (λ x j some low. elsewhere s h.words x (next_version p) j 0 0 low (omega arith) (inr (λ z. omega arith)))
+            (λ x j some low. elsewhere s h.words x (next_version p) j 0 0 low (omega arith)
+            (inr (λ z. omega arith)))
             good.contents (built k first.room first.version first.built);
         chained = subst (AreChained s words (with_one h.index k)) (sym (store_one e))
             (chained_created s h.words words h.index store (effect_of store e) k none good.chained
             (λ n. there_after store e n) made here links stands.fresh
-            (λ m. contents_of-push store (k.name, new_contents k.contents.refs k.contents.numbers) m.name m.contents));
+            (λ m. contents_of-push store (k.name, new_contents k.contents.refs k.contents.numbers) m.name
+            m.contents));
         history = history_with e may stands;
         callers = below_more s.callers p.number h.history (Some e) refl mine.number good.callers;
       }
@@ -273,7 +297,8 @@ module _ {U : Type 0} (lawful : U → PlainStore → Type 0) (allowed : U → Pl
       let apart : at.version.0 ≢ k.version.0 = not_the_one h.index k at none is in
       let links : (m : Known) → IsPublished h.index m → m.version.0 ≢ at.version.0
       → link_of s words m ≡ link_of s h.words m =
-      λ m it n. elsewhere s h.words m.version at.version 0 0 (naming_word (Some k.version)) (omega arith) (omega arith)
+      λ m it n. elsewhere s h.words m.version at.version 0 0 (naming_word (Some k.version)) (omega arith)
+      (omega arith)
       (inl n) in
       let here : link_of s words at ≡ naming_word (Some k.version) =
       written_here s h.words at.version 0 (naming_word (Some k.version)) good.wide (good.placed.fits at is)
@@ -294,12 +319,14 @@ module _ {U : Type 0} (lawful : U → PlainStore → Type 0) (allowed : U → Pl
             (let a = t.stamp in let b = (good.placed.sized at is).stamp in
             record { stamp = omega arith; contents = later.built.sized });
         contents = true_more s h.index h.words words k none
-            (λ x j some low. elsewhere s h.words x at.version j 0 (naming_word (Some k.version)) low (omega arith)
+            (λ x j some low. elsewhere s h.words x at.version j 0 (naming_word (Some k.version)) low
+            (omega arith)
             (inr (λ z. omega arith)))
             good.contents (built k later.room later.version later.built);
         chained = subst (AreChained s words (with_one h.index k)) (sym (store_one e))
             (chained_hung s h.words words h.index store (effect_of store e) k none good.chained
-            (λ n. there_after store e n) made own at is (sym zero_link) here links later.name later.rank t.others);
+            (λ n. there_after store e n) made own at is (sym zero_link) here links later.name later.rank
+            t.others);
         history = history_with e may t.stands;
         callers = below_more s.callers p.number h.history (Some e) t.by mine.number good.callers;
       }

@@ -31,7 +31,8 @@ held_cases held (Some m) k h = go (list_any (is_version m) held) h
     go false c = listed_cases held (Some m) k c
 
 -- held versions stay held
-pub held_stays : (held : List Known) (o : Option Known) (k : Known) → Contains held k → Contains (with_held held o) k
+pub held_stays : (held : List Known) (o : Option Known) (k : Known) → Contains held k → Contains
+    (with_held held o) k
 held_stays held None k h = h
 held_stays held (Some m) k h = go (list_any (is_version m) held)
   where
@@ -59,7 +60,8 @@ module _ {A : Type 0} where
       go : (t : Bool) → (Contains (filter f ys) x → Contains ys x)
           → Contains (cond t (y ∷ filter f ys) (filter f ys)) x → Contains (y ∷ ys) x
       go true rest c = ⊎_elim (λ (e : y ≡ x). contains_here x y ys e)
-          (λ (d : Contains (filter f ys) x). contains_behind x y ys (rest d)) (contains_first x y (filter f ys) c)
+          (λ (d : Contains (filter f ys) x). contains_behind x y ys (rest d))
+          (contains_first x y (filter f ys) c)
       go false rest c = contains_behind x y ys (rest c)
 
   -- what was there and passes is there still
@@ -75,7 +77,8 @@ module _ {A : Type 0} where
       go false c = c
 
 -- what stays held was held
-pub without_held : (held : List Known) (o : Option Known) (k : Known) → Contains (without held o) k → Contains held k
+pub without_held : (held : List Known) (o : Option Known) (k : Known) → Contains (without held o) k → Contains
+    held k
 without_held held None k h = h
 without_held held (Some m) k h = filter_was (λ (n : Known). not (is_version m n)) held k h
 
@@ -128,7 +131,8 @@ unless_was k i (Some x) w h = go (is_naming i) refl (eqb x (naming_word (Some k.
       e,
       λ (n : is_naming i ≡ true) (z : w ≡ naming_word (Some k.version)).
           let is : x ≡ w = cc in
-          let bad : eqb x (naming_word (Some k.version)) ≡ true = eq-eqb x (naming_word (Some k.version)) (is ∙ z) in
+          let bad : eqb x (naming_word (Some k.version)) ≡ true = eq-eqb x (naming_word (Some k.version))
+          (is ∙ z) in
           let both : true ≡ false = sym bad ∙ eb in cc,
     )
     go false ea b eb e = (e, λ (n : is_naming i ≡ true). let both : true ≡ false = sym n ∙ ea in cc)
@@ -139,14 +143,19 @@ unnamed_was_from : (k : Known) (i : ℕ) (l : List (Option ℕ)) (j w : ℕ)
 unnamed_was_from k i [] j w h = cc
 unnamed_was_from k i (x ∷ xs) zero w h =
     let r = unless_was k i x w h in
-    let at : i ≡ zero + i = omega arith in (r.0, λ (n : is_naming (zero + i) ≡ true). r.1 (ap is_naming at ∙ n))
+    let at : i ≡ zero + i = omega arith in (
+      r.0,
+      λ (n : is_naming (zero + i) ≡ true). r.1
+          (ap is_naming at ∙ n),
+    )
 unnamed_was_from k i (x ∷ xs) (suc j) w h =
     let r = unnamed_was_from k (i + 1) xs j w h in
     let at : j + (i + 1) ≡ suc j + i = omega arith in
     (r.0, λ (n : is_naming (suc j + i) ≡ true). r.1 (ap is_naming at ∙ n))
 
 -- so for each word of a draft
-pub unnamed_was : (o : Option Known) (l : List (Option ℕ)) (j w : ℕ) → IsWritten (unnamed o l) j w → IsWritten l j w
+pub unnamed_was : (o : Option Known) (l : List (Option ℕ)) (j w : ℕ) → IsWritten (unnamed o l) j w → IsWritten
+    l j w
 unnamed_was None l j w h = h
 unnamed_was (Some k) l j w h = (unnamed_was_from k 0 l j w h).0
 

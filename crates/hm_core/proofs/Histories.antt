@@ -210,7 +210,8 @@ module _ (lawful : PlainStore → Type 0) (allowed : PlainStore → Entry → Ty
             record {
               between = b.rest;
               others = others_only q seen h mine b.rest b.is calls.all calls.seen;
-              come = come_behind start seen b.rest calls.opened (subst (IsLawful lawful allowed start) b.is good);
+              come = come_behind start seen b.rest calls.opened
+                  (subst (IsLawful lawful allowed start) b.is good);
               here = here;
               store = good.now;
             }

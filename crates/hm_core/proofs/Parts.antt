@@ -39,7 +39,8 @@ module _ {U : Type 0} (lawful : U → PlainStore → Type 0) (allowed : U → Pl
   abbrev own_word : List ℕ → ℕ → ℕ → ℕ
   own_word words used j = slice_index words (word_at s (version_at s p.number p.draft.region used) j)
 
-  used_after : (o : Option Known) → p.draft.used + count_of o ≡ used_with h.used (row_of_part p) o (row_of_part p)
+  used_after : (o : Option Known) → p.draft.used + count_of o ≡ used_with h.used (row_of_part p) o
+      (row_of_part p)
   used_after None = let a = mine.draft.used in omega arith
   used_after (Some k) = let a = mine.draft.used in let b = used_here h.used (row_of_part p) k in omega arith
 
@@ -90,9 +91,11 @@ module _ {U : Type 0} (lawful : U → PlainStore → Type 0) (allowed : U → Pl
   written_after : (act : Act) → May act → (x : ℕ) → x ≡ slice_index h.words (word_of p act)
       → p.draft.used + count_of (publishes act x) < s.versions → (j w : ℕ)
       → IsWritten (written_with p.draft.written act (publishes act x)) j w
-      → own_word (slice_set h.words (word_of p act) (becomes act x)) (p.draft.used + count_of (publishes act x)) j ≡ w
+      → own_word (slice_set h.words (word_of p act) (becomes act x))
+      (p.draft.used + count_of (publishes act x)) j ≡ w
   written_after (LoadStamp at) may x is =
-      as_before (slice_set h.words (word_at s at.version 1) x) (same_word h.words (word_at s at.version 1) x is)
+      as_before (slice_set h.words (word_at s at.version 1) x)
+      (same_word h.words (word_at s at.version 1) x is)
   written_after (LoadReference at i) may x is =
       as_before (slice_set h.words (word_at s at.version (2 + i)) x)
       (same_word h.words (word_at s at.version (2 + i)) x is)
@@ -100,7 +103,8 @@ module _ {U : Type 0} (lawful : U → PlainStore → Type 0) (allowed : U → Pl
       as_before (slice_set h.words (word_at s at.version (6 + i)) x)
       (same_word h.words (word_at s at.version (6 + i)) x is)
   written_after (LoadLink at want) may x is =
-      as_before (slice_set h.words (word_at s at.version 0) x) (same_word h.words (word_at s at.version 0) x is)
+      as_before (slice_set h.words (word_at s at.version 0) x)
+      (same_word h.words (word_at s at.version 0) x is)
   written_after (StoreOwn i word) may x is = one_more i word may
   written_after (Publish k) may x is = λ room j w e. absurd (none_written j w e)
   written_after (LinkStore at k e) may zero is = λ room j w e. absurd (none_written j w e)
@@ -136,7 +140,8 @@ module _ {U : Type 0} (lawful : U → PlainStore → Type 0) (allowed : U → Pl
       (published_either h.index f k there)
 
   -- the caller's hands afterwards have published versions
-  hands_now : (m : Move) (x : ℕ) (found : Option Known) → IfSome (publishes m.act x) (λ k. h.index k.version.0 ≡ None)
+  hands_now : (m : Move) (x : ℕ) (found : Option Known) → IfSome (publishes m.act x)
+      (λ k. h.index k.version.0 ≡ None)
       → IfSome found (IsPublished h.index)
       → AreIndexed s p.number (index_with h.index (publishes m.act x)) (hands_after p.hands m x found)
   hands_now m x found fresh is = record {
@@ -178,7 +183,8 @@ module _ {U : Type 0} (lawful : U → PlainStore → Type 0) (allowed : U → Pl
     pub seen_lawful : (o : Option Entry)
         → IsLawful (lawful p.site.usage) (allowed p.site.usage) p.site.start (h.history ++ listed o)
         → IsLawful (lawful p.site.usage) (allowed p.site.usage) p.site.start (seen_after seen h.history o)
-    seen_lawful None l = lawful_before (lawful p.site.usage) (allowed p.site.usage) p.site.start seen h.history
+    seen_lawful None l = lawful_before (lawful p.site.usage) (allowed p.site.usage) p.site.start seen
+        h.history
         mine.calls.opened begins good.history
     seen_lawful (Some e) l = l
 
@@ -199,13 +205,15 @@ module _ {U : Type 0} (lawful : U → PlainStore → Type 0) (allowed : U → Pl
             region = mine.draft.region;
             used = used_after (publishes m.act x);
             wide = unnamed_wide m.let_go fresh_words ∙ wide_with m.act (publishes m.act x);
-            written = λ room j w e. written_after m.act may x is room j w (unnamed_was m.let_go fresh_words j w e);
+            written = λ room j w e. written_after m.act may x is room j w
+                (unnamed_was m.let_go fresh_words j w e);
             named = λ j w n e. names_more left (with_held (with_held left found) (publishes m.act x)) w
                 (λ k c. held_stays (with_held left found) (publishes m.act x) k (held_stays left found k c))
                 (names_without p.hands.held m.let_go fresh_words j w e n
                 (named_before m.act may x j w n (unnamed_was m.let_go fresh_words j w e)));
           };
-          hands = hands_now m x found fresh (found_now lawful allowed h seen p good mine names make m.act may x is).1;
+          hands = hands_now m x found fresh (found_now lawful allowed h seen p good mine names make m.act may
+              x is).1;
           calls = record {
             all = calls_after p.number h.history p.mine (entry_of p.number m.act x) by mine.calls.all;
             seen = calls_seen (entry_of p.number m.act x) by;
@@ -223,7 +231,8 @@ module _ {U : Type 0} (lawful : U → PlainStore → Type 0) (allowed : U → Pl
     their_next = version_at s q.number q.draft.region q.draft.used
 
     other_row : their_row ≢ row_of_part p
-    other_row e = apart (same_row q.number p.number s.regions q.draft.region p.draft.region theirs.draft.region
+    other_row e = apart (same_row q.number p.number s.regions q.draft.region p.draft.region
+        theirs.draft.region
         mine.draft.region e)
 
     used_same : (o : Option Known) → used_with h.used (row_of_part p) o their_row ≡ h.used their_row
@@ -234,7 +243,8 @@ module _ {U : Type 0} (lawful : U → PlainStore → Type 0) (allowed : U → Pl
     their_none room =
         let a = theirs.draft.used in
         ap (λ (i : ℕ). h.index (their_row * s.versions + i)) a
-        ∙ good.placed.unused their_row (h.used their_row) (row_below_of q.number theirs.number) (omega arith) (omega arith)
+        ∙ good.placed.unused their_row (h.used their_row) (row_below_of q.number theirs.number) (omega arith)
+        (omega arith)
       where
         row_below_of : (n : ℕ) → n < s.callers → row_of s n q.draft.region < s.callers * s.regions
         row_below_of n low = Rattle.hm_core.proofs.Placed.place_small n s.callers s.regions q.draft.region low
@@ -256,16 +266,19 @@ module _ {U : Type 0} (lawful : U → PlainStore → Type 0) (allowed : U → Pl
         elsewhere s h.words their_next at.version j 1 y low (omega arith) (inl (not_looked at may room))
     unmoved (LoadReference at i) may room y j low =
         let small = may.1 in
-        elsewhere s h.words their_next at.version j (2 + i) y low (omega arith) (inl (not_looked at may.0 room))
+        elsewhere s h.words their_next at.version j (2 + i) y low (omega arith)
+        (inl (not_looked at may.0 room))
     unmoved (LoadNumber at i) may room y j low =
         let small = may.1 in
-        elsewhere s h.words their_next at.version j (6 + i) y low (omega arith) (inl (not_looked at may.0 room))
+        elsewhere s h.words their_next at.version j (6 + i) y low (omega arith)
+        (inl (not_looked at may.0 room))
     unmoved (LoadLink at want) may room y j low =
         elsewhere s h.words their_next at.version j 0 y low (omega arith) (inl (not_looked at may.0 room))
     unmoved (StoreOwn i word) may room y j low =
         elsewhere s h.words their_next (next_version p) j i y low may.below (inl (not_next may.room room))
     unmoved (Publish k) may room y j low =
-        elsewhere s h.words their_next (next_version p) j 0 y low (omega arith) (inl (not_next may.0.room room))
+        elsewhere s h.words their_next (next_version p) j 0 y low (omega arith)
+        (inl (not_next may.0.room room))
     unmoved (LinkStore at k e) may room y j low =
         elsewhere s h.words their_next at.version j 0 y low (omega arith) (inl (not_looked at may.look room))
 
@@ -282,7 +295,8 @@ module _ {U : Type 0} (lawful : U → PlainStore → Type 0) (allowed : U → Pl
         → HasCalls p.site.start q.number q.mine (h.history ++ listed o) (seen_after known h.history o)
     calls_along None by b = calls_known None by
     calls_along (Some e) by b =
-        let all = calls_beside p.number q.number h.history q.mine (Some e) by (λ z. apart (sym z)) theirs.calls.all in
+        let all = calls_beside p.number q.number h.history q.mine (Some e) by (λ z. apart (sym z))
+        theirs.calls.all in
         record {
           all = all;
           seen = all;
@@ -296,9 +310,11 @@ module _ {U : Type 0} (lawful : U → PlainStore → Type 0) (allowed : U → Pl
     not_theirs k region place is room at =
         let same : row_of s q.number region * s.versions + place ≡ (next_version p).0 =
         ap (λ (v : Version). v.0) (sym at.number ∙ is) in
-        let rows : row_of s q.number region ≡ row_of_part p = same_row (row_of s q.number region) (row_of_part p)
+        let rows : row_of s q.number region ≡ row_of_part p = same_row (row_of s q.number region)
+        (row_of_part p)
         s.versions place p.draft.used at.place_fits room same in
-        apart (same_row q.number p.number s.regions region p.draft.region at.region_fits mine.draft.region rows)
+        apart (same_row q.number p.number s.regions region p.draft.region at.region_fits mine.draft.region
+        rows)
 
     their_own : (o : Option Known) → IfSome o (λ f. (f.version ≡ next_version p) × HasRoom p) → (k : Known)
         (region place : ℕ) → IsPublished (index_with h.index o) k → IsAt s k.version q.number region place
@@ -329,8 +345,10 @@ module _ {U : Type 0} (lawful : U → PlainStore → Type 0) (allowed : U → Pl
           };
           hands = record {
             held = λ k there. index_more h.index (publishes act x) k fresh (theirs.hands.held k there);
-            published = λ k there. index_more h.index (publishes act x) k fresh (theirs.hands.published k there);
-            own = their_own (publishes act x) (next_now lawful allowed h seen p good mine names make act may x);
+            published = λ k there. index_more h.index (publishes act x) k fresh
+                (theirs.hands.published k there);
+            own = their_own (publishes act x) (next_now lawful allowed h seen p good mine names make act may
+                x);
           };
           calls = calls;
         }

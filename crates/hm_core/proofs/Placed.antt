@@ -88,7 +88,8 @@ pub contents_more : (s : Shape) (index : Index) (words : List ℕ) (k m : Known)
     → HasContents s index words m → HasContents s (with_one index k) words m
 contents_more s index words k m none h = record {
   stamp = h.stamp;
-  refs = λ i low. refers_more index k (words_at s words m (2 + i)) (reference_at m.contents i) none (h.refs i low);
+  refs = λ i low. refers_more index k (words_at s words m (2 + i)) (reference_at m.contents i) none
+      (h.refs i low);
   numbers = h.numbers;
 }
 
@@ -97,7 +98,8 @@ pub true_more : (s : Shape) (index : Index) (words words' : List ℕ) (k : Known
     → ((v : Version) → SameBody s words words' v) → AreTrue s words index → HasContents s index words k
     → AreTrue s words' (with_one index k)
 true_more s index words words' k none same all one m there =
-    contents_same s (with_one index k) words words' m (same m.version) (contents_more s index words k m none (⊎_elim
+    contents_same s (with_one index k) words words' m (same m.version)
+    (contents_more s index words k m none (⊎_elim
     (λ (t : k ≡ m). subst (HasContents s index words) t one)
     (λ (t : (m.version.0 ≢ k.version.0) × IsPublished index m). all m t.1)
     (published_either index k m there)))

@@ -23,7 +23,8 @@ module _ {A : Type 0} where
   at_longer (x ∷ xs) m (suc i) a e = at_longer xs m i a e
 
   -- those of the second come behind it
-  pub at_later : (l m : List A) (i : ℕ) (a : A) → get_elem? m i ≡ some a → get_elem? (l ++ m) (length l + i) ≡ some a
+  pub at_later : (l m : List A) (i : ℕ) (a : A) → get_elem? m i ≡ some a → get_elem? (l ++ m) (length l + i) ≡
+      some a
   at_later [] m i a e = subst (λ (k : ℕ). get_elem? m k ≡ some a) (omega arith) e
   at_later (x ∷ xs) m i a e =
       let same : suc (length xs + i) ≡ length (x ∷ xs) + i = omega arith in
@@ -48,7 +49,8 @@ module _ {A : Type 0} where
 
   -- an element of either list
   pub at_either : (l m : List A) (k : ℕ) (a : A) → get_elem? (l ++ m) k ≡ some a
-      → ((k < length l) × (get_elem? l k ≡ some a)) ⊎ ((i : ℕ) × (k ≡ length l + i) × (get_elem? m i ≡ some a))
+      → ((k < length l) × (get_elem? l k ≡ some a)) ⊎
+      ((i : ℕ) × (k ≡ length l + i) × (get_elem? m i ≡ some a))
   at_either [] m k a e = inr (k, omega arith, e)
   at_either (x ∷ xs) m zero a e = inl (omega arith, e)
   at_either (x ∷ xs) m (suc k) a e = ⊎_elim

@@ -14,11 +14,13 @@ use Rattle.hm_core.proofs.Steps.{good_step}
 use Rattle.hm_core.proofs.Seats.{good_split, good_join}
 use Rattle.hm_core.proofs.Fresh.{good_fresh}
 
-forward : (index : Index) (store : PlainStore) (k : Known) (w : ℕ) → IsLinked index store k w → IsForward index k w
+forward : (index : Index) (store : PlainStore) (k : Known) (w : ℕ) → IsLinked index store k w → IsForward
+    index k w
 forward index store k zero h = tt
 forward index store k (suc v) h = h
 
-module _ {U : Type 0} (lawful : U → PlainStore → Type 0) (allowed : U → PlainStore → Entry → Type 0) (g : Site U) where
+module _ {U : Type 0} (lawful : U → PlainStore → Type 0) (allowed : U → PlainStore → Entry → Type 0)
+    (g : Site U) where
   -- what is kept is safe
   pub safe_good : (c : Core U) → Good lawful allowed g c → IsSafe g c
   safe_good c good =
@@ -27,10 +29,12 @@ module _ {U : Type 0} (lawful : U → PlainStore → Type 0) (allowed : U → Pl
       record {
         contents = record {
           words = good.heap.contents;
-          present = λ k is zero_link. subst (IsLinked h.index (store_of h.history) k) zero_link (chained.link k is);
+          present = λ k is zero_link. subst (IsLinked h.index (store_of h.history) k) zero_link
+              (chained.link k is);
         };
         chains = record {
-          links = λ k is. forward h.index (store_of h.history) k (link_of g.shape h.words k) (chained.link k is);
+          links = λ k is. forward h.index (store_of h.history) k (link_of g.shape h.words k)
+              (chained.link k is);
           ranks = chained.apart;
           last = λ k m a b same x y.
               let low = chained.top k m a b same x in
@@ -49,7 +53,8 @@ module _ {U : Type 0} (lawful : U → PlainStore → Type 0) (allowed : U → Pl
 
   module _ (laws : (u : U) → UsageLaws (lawful u) (allowed u)) where
     -- every machine that a good one leads to is good
-    pub good_always : (c d : Core U) → Good lawful allowed g c → Leads lawful allowed c d → Good lawful allowed g d
+    pub good_always : (c d : Core U) → Good lawful allowed g c → Leads lawful allowed c d → Good lawful
+        allowed g d
     good_always c _ good here = good
     good_always c _ good (moved d id place v p m l at may) =
         good_step lawful allowed laws g d id place v p m (good_always c d good l) at may
@@ -60,6 +65,7 @@ module _ {U : Type 0} (lawful : U → PlainStore → Type 0) (allowed : U → Pl
 
     -- so every machine that a fresh one leads to is safe
     pub safe_always : (c d : Core U) → IsSizedStart g.start → starting_count g.start ≤ g.shape.versions
-        → IsFreshCore g c → lawful g.usage (store_of (opening_of g.start)) → Leads lawful allowed c d → IsSafe g d
+        → IsFreshCore g c → lawful g.usage (store_of (opening_of g.start)) → Leads lawful allowed c d → IsSafe
+        g d
     safe_always c d sized room fresh now l =
         safe_good d (good_always c d (good_fresh lawful allowed g sized room c fresh now) l)

@@ -14,7 +14,9 @@ use Rattle.hm_core.specs.Good.{Begins, AreBelow, PartIsGood, Core, Good, Carries
 use Rattle.hm_core.proofs.Histories.{below_later, none_made, nothing_more, begins_on, begins_longer, left_begins, right_begins, calls_between}
 use Rattle.hm_core.proofs.Places.{at_set, at_longer, at_later, at_below, at_end, at_either, set_here, set_else}
 
-module _ {U : Type 0} (lawful : U → PlainStore → Type 0) (allowed : U → PlainStore → Entry → Type 0) (g : Site U) (c : Core U) (id : ℕ) (v : View U) (good : Good lawful allowed g c) (at : get_elem? c.views id ≡ some v) where
+module _ {U : Type 0} (lawful : U → PlainStore → Type 0) (allowed : U → PlainStore → Entry → Type 0)
+    (g : Site U) (c : Core U) (id : ℕ) (v : View U) (good : Good lawful allowed g c)
+    (at : get_elem? c.views id ≡ some v) where
   module _ (left right : List (Part U)) (cut : v.parts ≡ left ++ right) where
     -- where a caller stood before: the same place, or behind those that stay
     record Came (j k : ℕ) (u : View U) (q : Part U) : Type 0 where
@@ -23,20 +25,28 @@ module _ {U : Type 0} (lawful : U → PlainStore → Type 0) (allowed : U → Pl
       old : View U
       stood : Carries c.views seat place old q
       same : old.seen ≡ u.seen
-      how : ((j ≡ id) × (seat ≡ id) × (place ≡ k) × (k < length left)) ⊎ (((j ≡ length c.views) × (seat ≡ id) × (place ≡ length left + k)) ⊎ ((j ≢ id) × (j < length c.views) × (seat ≡ j) × (place ≡ k)))
+      how : ((j ≡ id) × (seat ≡ id) × (place ≡ k) × (k < length left)) ⊎
+          (((j ≡ length c.views) × (seat ≡ id) × (place ≡ length left + k)) ⊎
+          ((j ≢ id) × (j < length c.views) × (seat ≡ j) × (place ≡ k)))
 
-    came : (j k : ℕ) (u : View U) (q : Part U) → Carries (split c id v left right).views j k u q → Came j k u q
+    came : (j k : ℕ) (u : View U) (q : Part U) → Carries (split c id v left right).views j k u q → Came j k u
+        q
     came j k u q s = ⊎_elim
         (λ (t : (j ≡ length (set c.views id (view v.seen left))) × (view v.seen right ≡ u)).
         record {
           seat = id;
           place = length left + k;
           old = v;
-          stood = record { seat = at; place = ap (λ (l : List (Part U)). get_elem? l (length left + k)) cut ∙ at_later left right k q (ap (λ (z : View U). get_elem? z.parts k) t.1 ∙ s.place) };
+          stood = record {
+            seat = at;
+            place = ap (λ (l : List (Part U)). get_elem? l (length left + k)) cut ∙
+                at_later left right k q (ap (λ (z : View U). get_elem? z.parts k) t.1 ∙ s.place);
+          };
           same = ap (λ (z : View U). z.seen) t.1;
           how = inr (inl (t.0 ∙ length-set c.views id (view v.seen left), refl, refl));
         })
-        (λ (t : (j < length (set c.views id (view v.seen left))) × (get_elem? (set c.views id (view v.seen left)) j ≡ some u)).
+        (λ (t : (j < length (set c.views id (view v.seen left))) ×
+        (get_elem? (set c.views id (view v.seen left)) j ≡ some u)).
         ⊎_elim
         (λ (r : (j ≡ id) × (view v.seen left ≡ u)).
         let here : get_elem? left k ≡ some q = ap (λ (z : View U). get_elem? z.parts k) r.1 ∙ s.place in
@@ -44,28 +54,45 @@ module _ {U : Type 0} (lawful : U → PlainStore → Type 0) (allowed : U → Pl
           seat = id;
           place = k;
           old = v;
-          stood = record { seat = at; place = ap (λ (l : List (Part U)). get_elem? l k) cut ∙ at_longer left right k q here };
+          stood = record {
+            seat = at;
+            place = ap (λ (l : List (Part U)). get_elem? l k) cut ∙ at_longer left
+                right k q here;
+          };
           same = ap (λ (z : View U). z.seen) r.1;
           how = inl (r.0, refl, refl, at_below left k q here);
         })
         (λ (r : (j ≢ id) × (get_elem? c.views j ≡ some u)).
-        record { seat = j; place = k; old = u; stood = record { seat = r.1; place = s.place }; same = refl; how = inr (inr (r.0, at_below c.views j u r.1, refl, refl)) })
+        record {
+          seat = j;
+          place = k;
+          old = u;
+          stood = record { seat = r.1; place = s.place };
+          same = refl;
+          how = inr (inr (r.0, at_below c.views j u r.1, refl, refl));
+        })
         (at_set c.views id j (view v.seen left) u t.1))
         (at_end (set c.views id (view v.seen left)) (view v.seen right) u j s.seat)
 
-    split_seen : (j : ℕ) (u : View U) → get_elem? (split c id v left right).views j ≡ some u → Begins u.seen c.heap.history
+    split_seen : (j : ℕ) (u : View U) → get_elem? (split c id v left right).views j ≡ some u → Begins u.seen
+        c.heap.history
     split_seen j u there = ⊎_elim
-        (λ (t : (j ≡ length (set c.views id (view v.seen left))) × (view v.seen right ≡ u)). subst (λ (z : View U). Begins z.seen c.heap.history) t.1 (good.seen id v at))
-        (λ (t : (j < length (set c.views id (view v.seen left))) × (get_elem? (set c.views id (view v.seen left)) j ≡ some u)). ⊎_elim
-        (λ (r : (j ≡ id) × (view v.seen left ≡ u)). subst (λ (z : View U). Begins z.seen c.heap.history) r.1 (good.seen id v at))
-        (λ (r : (j ≢ id) × (get_elem? c.views j ≡ some u)). good.seen j u r.1) (at_set c.views id j (view v.seen left) u t.1))
+        (λ (t : (j ≡ length (set c.views id (view v.seen left))) × (view v.seen right ≡ u)). subst
+        (λ (z : View U). Begins z.seen c.heap.history) t.1 (good.seen id v at))
+        (λ (t : (j < length (set c.views id (view v.seen left))) ×
+        (get_elem? (set c.views id (view v.seen left)) j ≡ some u)). ⊎_elim
+        (λ (r : (j ≡ id) × (view v.seen left ≡ u)). subst (λ (z : View U). Begins z.seen c.heap.history) r.1
+        (good.seen id v at))
+        (λ (r : (j ≢ id) × (get_elem? c.views j ≡ some u)). good.seen j u r.1)
+        (at_set c.views id j (view v.seen left) u t.1))
         (at_end (set c.views id (view v.seen left)) (view v.seen right) u j there)
 
     pub good_split : Good lawful allowed g (split c id v left right)
     good_split = record {
       heap = good.heap;
       seen = split_seen;
-      parts = λ j k u q s. let b = came j k u q s in subst (λ (l : List Entry). PartIsGood g c.heap l q) b.same (good.parts b.seat b.place b.old q b.stood);
+      parts = λ j k u q s. let b = came j k u q s in subst (λ (l : List Entry). PartIsGood g c.heap l q)
+          b.same (good.parts b.seat b.place b.old q b.stood);
       apart = λ j k m n u u' q q' s s' same.
           let a = came j k u q s in
           let b = came m n u' q' s' in
@@ -81,12 +108,14 @@ module _ {U : Type 0} (lawful : U → PlainStore → Type 0) (allowed : U → Pl
   module _ (other : ℕ) (w : View U) (apart : other ≢ id) (there : get_elem? c.views other ≡ some w) where
     -- a view afterwards is spent, the joined one, or one from before
     after_join : (j : ℕ) (u : View U) → get_elem? (joined c id v other w).views j ≡ some u
-        → ((j ≡ other) × (spent_view ≡ u)) ⊎ (((j ≡ id) × (joined_view v w ≡ u)) ⊎ ((j ≢ id) × (j ≢ other) × (get_elem? c.views j ≡ some u)))
+        → ((j ≡ other) × (spent_view ≡ u)) ⊎ (((j ≡ id) × (joined_view v w ≡ u)) ⊎
+        ((j ≢ id) × (j ≢ other) × (get_elem? c.views j ≡ some u)))
     after_join j u h = ⊎_elim
         (λ (t : (j ≡ other) × (spent_view ≡ u)). inl t)
         (λ (t : (j ≢ other) × (get_elem? (set c.views id (joined_view v w)) j ≡ some u)). inr (⊎_elim
         (λ (r : (j ≡ id) × (joined_view v w ≡ u)). inl r)
-        (λ (r : (j ≢ id) × (get_elem? c.views j ≡ some u)). inr (r.0, t.0, r.1)) (at_set c.views id j (joined_view v w) u t.1)))
+        (λ (r : (j ≢ id) × (get_elem? c.views j ≡ some u)). inr (r.0, t.0, r.1))
+        (at_set c.views id j (joined_view v w) u t.1)))
         (at_set (set c.views id (joined_view v w)) other j spent_view u h)
 
     -- where a caller stood before: the same place, or in the seat that was taken in
@@ -97,15 +126,20 @@ module _ {U : Type 0} (lawful : U → PlainStore → Type 0) (allowed : U → Pl
       stood : Carries c.views seat place old q
       further : Begins old.seen u.seen
       begins : Begins u.seen c.heap.history
-      how : ((j ≡ id) × (seat ≡ id) × (place ≡ k) × (k < length v.parts)) ⊎ (((j ≡ id) × (seat ≡ other) × (k ≡ length v.parts + place)) ⊎ ((j ≢ id) × (j ≢ other) × (seat ≡ j) × (place ≡ k)))
+      how : ((j ≡ id) × (seat ≡ id) × (place ≡ k) × (k < length v.parts)) ⊎
+          (((j ≡ id) × (seat ≡ other) × (k ≡ length v.parts + place)) ⊎
+          ((j ≢ id) × (j ≢ other) × (seat ≡ j) × (place ≡ k)))
 
     longer_seen : Begins (longer v.seen w.seen) c.heap.history
     longer_seen = begins_longer v.seen w.seen c.heap.history (good.seen id v at) (good.seen other w there)
 
-    merged : (j k : ℕ) (u : View U) (q : Part U) → Carries (joined c id v other w).views j k u q → Merged j k u q
+    merged : (j k : ℕ) (u : View U) (q : Part U) → Carries (joined c id v other w).views j k u q → Merged j k
+        u q
     merged j k u q s = ⊎_elim
-        (λ (t : (j ≡ other) × (spent_view ≡ u)). absurd (some-ne-none q (sym (ap (λ (z : View U). get_elem? z.parts k) t.1 ∙ s.place))))
-        (λ (t : ((j ≡ id) × (joined_view v w ≡ u)) ⊎ ((j ≢ id) × (j ≢ other) × (get_elem? c.views j ≡ some u))). ⊎_elim
+        (λ (t : (j ≡ other) × (spent_view ≡ u)). absurd
+        (some-ne-none q (sym (ap (λ (z : View U). get_elem? z.parts k) t.1 ∙ s.place))))
+        (λ (t : ((j ≡ id) × (joined_view v w ≡ u)) ⊎
+        ((j ≢ id) × (j ≢ other) × (get_elem? c.views j ≡ some u))). ⊎_elim
         (λ (r : (j ≡ id) × (joined_view v w ≡ u)). ⊎_elim
         (λ (y : (k < length v.parts) × (get_elem? v.parts k ≡ some q)).
         record {
@@ -113,7 +147,8 @@ module _ {U : Type 0} (lawful : U → PlainStore → Type 0) (allowed : U → Pl
           place = k;
           old = v;
           stood = record { seat = at; place = y.1 };
-          further = subst (λ (z : View U). Begins v.seen z.seen) r.1 (left_begins v.seen w.seen c.heap.history (good.seen id v at) (good.seen other w there));
+          further = subst (λ (z : View U). Begins v.seen z.seen) r.1
+              (left_begins v.seen w.seen c.heap.history (good.seen id v at) (good.seen other w there));
           begins = subst (λ (z : View U). Begins z.seen c.heap.history) r.1 longer_seen;
           how = inl (r.0, refl, refl, y.0);
         })
@@ -123,13 +158,24 @@ module _ {U : Type 0} (lawful : U → PlainStore → Type 0) (allowed : U → Pl
           place = y.0;
           old = w;
           stood = record { seat = there; place = y.2 };
-          further = subst (λ (z : View U). Begins w.seen z.seen) r.1 (right_begins v.seen w.seen c.heap.history (good.seen id v at) (good.seen other w there));
+          further = subst (λ (z : View U). Begins w.seen z.seen) r.1
+              (right_begins v.seen w.seen c.heap.history (good.seen id v at) (good.seen other w there));
           begins = subst (λ (z : View U). Begins z.seen c.heap.history) r.1 longer_seen;
           how = inr (inl (r.0, refl, y.1));
         })
         (at_either v.parts w.parts k q (ap (λ (z : View U). get_elem? z.parts k) r.1 ∙ s.place)))
         (λ (r : (j ≢ id) × (j ≢ other) × (get_elem? c.views j ≡ some u)).
-        record { seat = j; place = k; old = u; stood = record { seat = r.2; place = s.place }; further = record { rest = []; is = sym (append-nil u.seen) }; begins = good.seen j u r.2; how = inr (inr (r.0, r.1, refl, refl)) }) t)
+        record {
+          seat = j;
+          place = k;
+          old = u;
+          stood = record { seat = r.2; place = s.place };
+          further =
+              record { rest = []; is = sym (append-nil u.seen) };
+          begins = good.seen j u r.2;
+          how = inr
+              (inr (r.0, r.1, refl, refl));
+        }) t)
         (after_join j u s.seat)
 
     -- a caller in a seat that has seen more
@@ -151,11 +197,16 @@ module _ {U : Type 0} (lawful : U → PlainStore → Type 0) (allowed : U → Pl
     good_join = record {
       heap = good.heap;
       seen = λ j u h. ⊎_elim
-          (λ (t : (j ≡ other) × (spent_view ≡ u)). subst (λ (z : View U). Begins z.seen c.heap.history) t.1 (record { rest = c.heap.history; is = refl }))
-          (λ (t : ((j ≡ id) × (joined_view v w ≡ u)) ⊎ ((j ≢ id) × (j ≢ other) × (get_elem? c.views j ≡ some u))). ⊎_elim
-          (λ (r : (j ≡ id) × (joined_view v w ≡ u)). subst (λ (z : View U). Begins z.seen c.heap.history) r.1 longer_seen)
-          (λ (r : (j ≢ id) × (j ≢ other) × (get_elem? c.views j ≡ some u)). good.seen j u r.2) t) (after_join j u h);
-      parts = λ j k u q s. let m = merged j k u q s in part_further m.old.seen u.seen q m.further m.begins (good.parts m.seat m.place m.old q m.stood);
+          (λ (t : (j ≡ other) × (spent_view ≡ u)). subst (λ (z : View U). Begins z.seen c.heap.history) t.1
+          (record { rest = c.heap.history; is = refl }))
+          (λ (t : ((j ≡ id) × (joined_view v w ≡ u)) ⊎
+          ((j ≢ id) × (j ≢ other) × (get_elem? c.views j ≡ some u))). ⊎_elim
+          (λ (r : (j ≡ id) × (joined_view v w ≡ u)). subst (λ (z : View U). Begins z.seen c.heap.history) r.1
+          longer_seen)
+          (λ (r : (j ≢ id) × (j ≢ other) × (get_elem? c.views j ≡ some u)). good.seen j u r.2) t)
+          (after_join j u h);
+      parts = λ j k u q s. let m = merged j k u q s in part_further m.old.seen u.seen q m.further m.begins
+          (good.parts m.seat m.place m.old q m.stood);
       apart = λ j k m n u u' q q' s s' same.
           let a = merged j k u q s in
           let b = merged m n u' q' s' in
@@ -177,15 +228,20 @@ module _ {U : Type 0} (lawful : U → PlainStore → Type 0) (allowed : U → Pl
     }
 
   -- a seat that carries every caller has seen all
-  pub whole : ((q : ℕ) → q < g.shape.callers → (k : ℕ) × (p : Part U) × (get_elem? v.parts k ≡ some p) × (p.number ≡ q)) → c.heap.history ≡ v.seen
+  pub whole : ((q : ℕ) → q < g.shape.callers → (k : ℕ) × (p : Part U) × (get_elem? v.parts k ≡ some p) ×
+      (p.number ≡ q)) → c.heap.history ≡ v.seen
   whole all =
       let b = good.seen id v at in
-      let below : AreBelow g.shape.callers b.rest = below_later g.shape.callers v.seen b.rest (subst (AreBelow g.shape.callers) b.is good.heap.callers) in
+      let below : AreBelow g.shape.callers b.rest = below_later g.shape.callers v.seen b.rest
+      (subst (AreBelow g.shape.callers) b.is good.heap.callers) in
       let none : (q : ℕ) → q < g.shape.callers → calls_of q b.rest ≡ [] = λ q small.
       let a = all q small in
       let k = good.parts id a.0 v a.1 record { seat = at; place = a.2 } in
       let mine : List Entry = a.1.mine in
-      let made : calls_of q c.heap.history ≡ mine = subst (λ (i : ℕ). calls_of i c.heap.history ≡ mine) a.3 k.calls.all in
+      let made : calls_of q c.heap.history ≡ mine = subst (λ (i : ℕ). calls_of i c.heap.history ≡ mine) a.3
+      k.calls.all in
       let seen : calls_of q v.seen ≡ mine = subst (λ (i : ℕ). calls_of i v.seen ≡ mine) a.3 k.calls.seen in
-      nothing_more mine (calls_of q b.rest) (ap (λ (l : List Entry). l ++ calls_of q b.rest) (sym seen) ∙ (sym (calls_of-append q v.seen b.rest) ∙ (ap (calls_of q) (sym b.is) ∙ made))) in
-      b.is ∙ (ap (λ (l : List Entry). v.seen ++ l) (none_made g.shape.callers b.rest below none) ∙ append-nil v.seen)
+      nothing_more mine (calls_of q b.rest) (ap (λ (l : List Entry). l ++ calls_of q b.rest) (sym seen) ∙
+      (sym (calls_of-append q v.seen b.rest) ∙ (ap (calls_of q) (sym b.is) ∙ made))) in
+      b.is ∙ (ap (λ (l : List Entry). v.seen ++ l) (none_made g.shape.callers b.rest below none) ∙ append-nil
+      v.seen)

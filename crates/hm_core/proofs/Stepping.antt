@@ -18,7 +18,7 @@ use Rattle.hm_core.specs.Stepping.{act_of, IsHeld, MayHoldMore, IsTaken, Fits, I
 module _ {U : Type 0} (p : Part U) where
   -- a hand for one version more serves every act
   hand_serves : (a : Act) → HasHand p → MayHold p a
-  hand_serves (act.LoadStamp at) h = h
+  hand_serves (act.LoadStamp at) h = tt
   hand_serves (act.LoadReference at i) h = h
   hand_serves (act.LoadNumber at i) h = h
   hand_serves (act.LoadLink at want) h = h
@@ -26,7 +26,8 @@ module _ {U : Type 0} (p : Part U) where
   hand_serves (act.Publish fresh) h = h
   hand_serves (act.LinkStore at fresh entry) h = h
 
-  may_hold : (c : Core U) (kind : StepKind) (a : Act) → act_of c.heap.index p kind ≡ Some a → MayHoldMore p kind
+  may_hold : (c : Core U) (kind : StepKind) (a : Act) → act_of c.heap.index p kind ≡ Some a → MayHoldMore p
+      kind
       → MayHold p a
   may_hold c (LoadField v i scan) a is h = hand_serves a h
   may_hold c (LoadLink v entry scan) a is h = hand_serves a h
@@ -42,7 +43,7 @@ module _ {U : Type 0} (p : Part U) where
   taken c (LoadField v i scan) a is h = h
   taken c (LoadLink v entry scan) a is h = h
   taken c (StoreOwn i word) a is h = h
-  taken c (Publish entry) a is h = h
+  taken c (Publish entry) a is h = h.0
   taken c (LinkStore v entry) a is h = h
   taken c Split a is h = absurd (cc)
   taken c (Meet other) a is h = absurd (cc)

@@ -76,7 +76,8 @@ module _ {U : Type 0} (lawful : U → PlainStore → Type 0) (allowed : U → Pl
     carries : Carries c.views j k old_view old
     same : old.number ≡ n
 
-  stood : (j k : ℕ) (u : View U) (q : Part U) → Carries (applied c id place v p m).views j k u q → Stood j k q.number
+  stood : (j k : ℕ) (u : View U) (q : Part U) → Carries (applied c id place v p m).views j k u q → Stood j k
+      q.number
   stood j k u q t = ⊎_elim
       (λ (r : (j ≡ id) × (w ≡ u)).
       let seat : get_elem? c.views j ≡ some v = ap (get_elem? c.views) r.0 ∙ at.seat in ⊎_elim
@@ -111,8 +112,10 @@ module _ {U : Type 0} (lawful : U → PlainStore → Type 0) (allowed : U → Pl
       let was : Carries c.views id k v q = record { seat = at.seat; place = there } in
       let theirs = good.parts id k v q was in
       let apart : q.number ≢ p.number = λ e. ne (good.apart id k id place v v q p was at e).1 in
-      other_part lawful allowed c.heap v.seen p good.heap mine names make v.seen q apart theirs m.act may.act x w.seen
-      (calls_along lawful allowed c.heap v.seen p good.heap mine names make v.seen q apart theirs made by begins)
+      other_part lawful allowed c.heap v.seen p good.heap mine names make v.seen q apart theirs m.act may.act
+      x w.seen
+      (calls_along lawful allowed c.heap v.seen p good.heap mine names make v.seen q apart theirs made by
+      begins)
 
   -- a caller of another seat
   beside : (j k : ℕ) (u : View U) (q : Part U) → j ≢ id → Carries c.views j k u q
@@ -120,7 +123,8 @@ module _ {U : Type 0} (lawful : U → PlainStore → Type 0) (allowed : U → Pl
   beside j k u q ne was =
       let theirs = good.parts j k u q was in
       let apart : q.number ≢ p.number = λ e. ne (good.apart j k id place u v q p was at e).0 in
-      other_part lawful allowed c.heap v.seen p good.heap mine names make u.seen q apart theirs m.act may.act x u.seen
+      other_part lawful allowed c.heap v.seen p good.heap mine names make u.seen q apart theirs m.act may.act
+      x u.seen
       (calls_known lawful allowed c.heap v.seen p good.heap mine names make u.seen q apart theirs made by)
 
   own_step : Good lawful allowed p.site (applied c id place v p m)
@@ -146,10 +150,12 @@ module _ {U : Type 0} (lawful : U → PlainStore → Type 0) (allowed : U → Pl
     apart = λ j k i n u u' q q' s s' same.
         let a = stood j k u q s in
         let b = stood i n u' q' s' in
-        good.apart j k i n a.old_view b.old_view a.old b.old a.carries b.carries (a.same ∙ (same ∙ sym b.same));
+        good.apart j k i n a.old_view b.old_view a.old b.old a.carries b.carries
+        (a.same ∙ (same ∙ sym b.same));
   }
 
-  fit_at : (h : Heap) → HeapIsGood lawful allowed p.site h → (o : Option Known) → IfSome o (IsPublished h.index)
+  fit_at : (h : Heap) → HeapIsGood lawful allowed p.site h → (o : Option Known) → IfSome o
+      (IsPublished h.index)
       → IfSome o (IsFit p.site.shape)
   fit_at h kept None is = tt
   fit_at h kept (Some k) is =
@@ -172,7 +178,8 @@ module _ {U : Type 0} (lawful : U → PlainStore → Type 0) (allowed : U → Pl
         once = λ k n here there. published_once (heap_after c.heap p m.act x).index k n
             (own_after.hands.held k here) (own_after.hands.held n there);
         is = ap (λ (l : List Entry). view_after v place l p m x (finds c.heap.index m.act x)) begins.is;
-        history = seen_lawful lawful allowed c.heap v.seen p good.heap mine names make begins made own_step.heap.history;
+        history = seen_lawful lawful allowed c.heap v.seen p good.heap mine names make begins made
+            own_step.heap.history;
       }
 
 module _ {U : Type 0} (lawful : U → PlainStore → Type 0) (allowed : U → PlainStore → Entry → Type 0)

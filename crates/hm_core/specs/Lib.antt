@@ -4,3 +4,10 @@ pub mod Good
 pub mod Fresh
 pub mod Safe
 pub mod Stepping
+pub mod Hands
+pub mod SeatStates
+pub mod Chronicles
+pub mod Running
+pub mod Tables
+pub mod Taking
+pub mod Firsts

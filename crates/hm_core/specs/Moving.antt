@@ -337,9 +337,9 @@ module _ {U : Type 0} where
     pub room : HasRoom p
     pub named : is_naming i ≡ true → Names p.hands.held word
 
-  -- an act may make its caller hold one version more, but for the store of an own word
+  -- an act may make its caller hold one version more, but for a load of a stamp and a store of an own word
   abbrev pub MayHold : Part U → Act → Type 0
-  MayHold p (LoadStamp at) = HasHand p
+  MayHold p (LoadStamp at) = Unit {0}
   MayHold p (LoadReference at i) = HasHand p
   MayHold p (LoadNumber at i) = HasHand p
   MayHold p (LoadLink at want) = HasHand p

@@ -14,6 +14,7 @@ use Rattle.hm_core.specs.declared.moving.Move.{Move}
 use Rattle.hm_core.specs.Chain.{Index, Heap, IsPublished, HasContents, Follows, link_of, row_count, total}
 use Rattle.hm_core.specs.Moving.{IsLawfulMove}
 use Rattle.hm_core.specs.Good.{Begins, Core, Carries, applied, split, joined}
+use Rattle.hm_core.specs.Fresh.{IsFreshCore}
 
 -- each published version with link 0 has the contents that the store gives to its name
 pub record KeepsContents (s : Shape) (h : Heap) : Type 0 where
@@ -68,3 +69,10 @@ module _ {U : Type 0} (lawful : U → PlainStore → Type 0)
     met : (d : Core U) (id other : ℕ) (v w : View U) → Leads c d
         → get_elem? d.views id ≡ some v → other ≢ id → get_elem? d.views other ≡ some w
         → Leads c (joined d id v other w)
+
+-- a machine comes from a fresh one where a fresh one leads to it
+pub record ComesFromFresh {U : Type 0} (lawful : U → PlainStore → Type 0)
+    (allowed : U → PlainStore → Entry → Type 0) (g : Site U) (d : Core U) : Type 0 where
+  pub first : Core U
+  pub fresh : IsFreshCore g first
+  pub leads : Leads lawful allowed first d

@@ -8,7 +8,7 @@ use Rattle.hm_model.specs.declared.entry.Tried.TheVariants.{Stored, Changed}
 use Rattle.hm_model.specs.declared.entry.Entry.{Entry}
 use Rattle.hm_model.specs.declared.entry.Entry.TheVariants.{Create, Fetch, Store, StoreIf}
 use Rattle.hm_model.specs.Store.{IsThere}
-use Rattle.hm_model.specs.Effect.{new_contents, with_field, with_all}
+use Rattle.hm_model.specs.Effect.{caller_of, new_contents, with_field, with_all}
 use Rattle.hm_model.specs.History.{store_of}
 use Rattle.hm_core.specs.declared.part.Known.{Known}
 use Rattle.hm_core.specs.declared.part.Part.{Part}
@@ -62,6 +62,16 @@ first_known v (Fetch q n answer) = None
 first_known v (Store q n field) = None
 first_known v (StoreIf q n stamp refs numbers answer) = None
 
+-- a load of a field and a store of an own word have no entry
+abbrev pub IsPlain : StepKind → Type 0
+IsPlain (LoadField v i scan) = Unit {0}
+IsPlain (LoadLink v entry scan) = ⊥
+IsPlain (StoreOwn i word) = Unit {0}
+IsPlain (Publish entry) = ⊥
+IsPlain (LinkStore v entry) = ⊥
+IsPlain Split = ⊥
+IsPlain (Meet other) = ⊥
+
 module _ {U : Type 0} where
   -- a kind is an act of its caller, with the versions as they are known
   abbrev pub act_of : Index → Part U → StepKind → Option Act
@@ -82,13 +92,15 @@ module _ {U : Type 0} where
     pub carries : Carries c.views q 0 v p
     pub number : p.number ≡ q
 
+  -- a caller is alone where its own seat carries it and nobody else
+  abbrev pub IsAlone : Core U → ℕ → Type 0
+  IsAlone c r = (w : View U) × (p : Part U) × IsAwake c r w p × (w.parts ≡ p ∷ [])
+
   -- a seat may be met where it is a note that is not spent, or carries its own caller alone
   abbrev pub MayMeet : Core U → ℕ → ℕ → Other → Type 0
   MayMeet c callers q (Note i) =
       (w : View U) × (get_elem? c.views (seat_of callers (Note i)) ≡ some w) × (w.seen ≢ [])
-  MayMeet c callers q (Caller r) =
-      (r < callers) × (r ≢ q)
-      × ((w : View U) × (p : Part U) × IsAwake c r w p × (w.parts ≡ p ∷ []))
+  MayMeet c callers q (Caller r) = (r < callers) × (r ≢ q) × IsAlone c r
 
   -- the seat of a step is there
   abbrev pub HasSeat : Core U → ℕ → ℕ → StepKind → Type 0
@@ -164,7 +176,7 @@ module _ {U : Type 0} where
   Fits c p (LoadField v i scan) = IsTaken c p (LoadField v i scan)
   Fits c p (LoadLink v entry scan) = IsTaken c p (LoadLink v entry scan)
   Fits c p (StoreOwn i word) = IsTaken c p (StoreOwn i word)
-  Fits c p (Publish entry) = IsTaken c p (Publish entry)
+  Fits c p (Publish entry) = IsTaken c p (Publish entry) × (caller_of entry ≡ p.number)
   Fits c p (LinkStore v entry) = IsTaken c p (LinkStore v entry)
   Fits c p Split = Unit {0}
   Fits c p (Meet other) = Unit {0}

@@ -2,7 +2,7 @@
 //!
 //! A *moment* of the heap has the words of the Table, what is known of each published version, how many places of each
 //! region are used, the history of all entries, and a *view* for each seat. A view has the history that the seat has
-//! seen, and a part for each caller that it carries; the view of a note has none. No running call of a caller makes
+//! seen, and a part for each caller that it carries; the view of a note has none. No call of the running heap makes
 //! these values: contracts and proofs alone speak of them.
 //!
 //! A *move* of a caller is one load, one store or one exchange of one word. It is given by cuts, each a function of the
@@ -34,12 +34,34 @@
 //!
 //! A [`Step`] gives a kind of step with the numbers of versions. `specs/Stepping.antt` tells which act it is, and the
 //! conditions under which it is accepted, in the order in which they are tested.
+//!
+//! [`Machine`] takes these steps on plain data: the words, what is known of the version of each number, the history
+//! with the plain store that it leaves, what each caller holds and has written, and how much each seat has seen
+//! (`specs/Running.antt`). [`Machine::apply`] refuses a step for the first condition that fails, and else leaves the
+//! state that the cuts make (`specs/Taking.antt`). A version is found by its number, and an object by its name, in
+//! constant time. [`machine_after`] has the safety rule after every list of steps.
 #![tactic(auto)]
 
+mod apply;
+mod checks;
+mod chronicle;
+mod contents;
+mod cuts;
+mod effects;
+mod fitting;
+mod hand;
+mod laws;
+mod machine;
 mod moving;
 mod part;
+mod seat;
+mod starting;
 mod step;
+#[cfg(test)]
+mod tests;
 
+pub use laws::machine_after;
+pub use machine::{Machine, Memory};
 pub use moving::{Act, Move};
 pub use part::{Draft, Hands, Known, MOST_HELD, Part, Site, View};
 pub use step::{Other, Step, StepKind, StepRefused};

@@ -1,0 +1,9 @@
+use Rattle.std.proofs.Common.{◌<◌, ◌+◌, ℕ, slice_index}
+use Rattle.hm_shape.specs.declared.version.TheConstants.{FIRST_NUMBER}
+use Rattle.hm_core.specs.Moving.{IsWritten}
+use Rattle.hm_core.specs.Running.{own_part}
+use Rattle.hm_core.proofs.machine.Machine.are_numbers.Given as goal
+
+abbrev pub invariant-loop-i : goal.invariant-loop-i
+invariant-loop-i l = (k : ℕ) → k < l.i
+    → IsWritten (own_part l.self l.caller).draft.written (FIRST_NUMBER + k) (slice_index l.numbers k)

@@ -1,0 +1,13 @@
+use Rattle.std.proofs.Common.{◌+◌, ℕ, None, below_more, sym, ◌∙◌, get_or}
+use Rattle.hm_shape.specs.declared.version.TheConstants.{FIRST_REFERENCE}
+use Rattle.hm_core.specs.Moving.{IsWritten, Spells}
+use Rattle.hm_core.specs.Running.{own_part}
+use Rattle.hm_core.proofs.machine.Machine.are_spelled.Goals as goal
+
+pub loop-i-preserved : goal.loop-i-preserved
+loop-i-preserved c =
+    let p = own_part c.args.self.now c.args.caller in
+    let t = c.spells.ensures.0 c.if-not-spells.false in
+    below_more (λ (k : ℕ). (w : ℕ) × IsWritten p.draft.written (FIRST_REFERENCE + k) w × Spells p.hands.held w
+    (get_or c.args.refs.now k None))
+    c.loop-i.i c.loop-i.invariant (t.0, sym c.written-word.ensures ∙ t.1, t.2)

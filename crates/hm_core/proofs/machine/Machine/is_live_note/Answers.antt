@@ -1,0 +1,33 @@
+use Rattle.std.proofs.Common.{◌≡◌, ◌+◌, ◌<◌, ℕ, Some, None, sym, ap, ◌∙◌, subst, arith}
+use Rattle.std.specs.Prelude.{slice_get}
+use Rattle.std.proofs.lemmas.Option.{slice_get_past}
+use Rattle.std.proofs.lemmas.Bool.Decides.{nat_tests}
+use Rattle.hm_core.proofs.Seating.{note_iff, none_note}
+use Rattle.hm_core.proofs.machine.Machine.is_live_note.Goals as goal
+
+pub returns-then-i-notes : goal.returns-then-i-notes
+returns-then-i-notes c =
+    let m = c.args.self.now in
+    let past = slice_get_past m.seats (m.shape.callers + c.args.i) (omega arith) in
+    (λ t. absurd (cc), λ h. absurd (none_note m c.notes.ensures.sound c.args.i (sym past) h))
+
+pub returns-in-Some : goal.returns-in-Some
+returns-in-Some c =
+    let m = c.args.self.now in
+    let at : Some c.in-Some.seat.now ≡ slice_get m.seats (m.shape.callers + c.args.i) =
+    c.in-Some.ensures.seat ∙ ap (λ (x : ℕ). slice_get m.seats (x + c.args.i))
+    (c.from.ensures ∙ c.callers.ensures) in
+    let t = note_iff m c.in-Some.ensures.sound c.args.i c.in-Some.seat.now at in (
+      λ h. t.0 (let low : 0 < c.seen.result = grind (arith, nat_tests) in subst (λ (x : ℕ). 0 < x)
+          c.seen.ensures low),
+      λ h. let low : 0 < c.seen.result = subst (λ (x : ℕ). 0 < x) (sym c.seen.ensures) (t.1 h) in grind
+          (arith, nat_tests),
+    )
+
+pub returns-in-None : goal.returns-in-None
+returns-in-None c =
+    let m = c.args.self.now in
+    let at : None ≡ slice_get m.seats (m.shape.callers + c.args.i) =
+    c.in-None.ensures.seat ∙ ap (λ (x : ℕ). slice_get m.seats (x + c.args.i))
+    (c.from.ensures ∙ c.callers.ensures) in
+    (λ t. absurd (cc), λ h. absurd (none_note m c.in-None.ensures.sound c.args.i at h))

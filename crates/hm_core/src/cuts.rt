@@ -1,0 +1,226 @@
+//! A move cut into the word that it moves, what that becomes, and what it makes and finds.
+ghost use Rattle.std.specs.Prelude.{◌≡◌, ◌+◌, ◌<◌, ◌^◌, length};
+ghost use Rattle.hm_model.specs.declared.entry.Entry.TheVariants.{Create};
+ghost use Rattle.hm_core.specs.Moving.{word_of as moved_word, becomes as word_after, entry_of, publishes as published_by, finds as found_by, MayTake};
+ghost use Rattle.hm_core.specs.Stepping.{act_of as act_by, field_act as field_load, first_known as first_of, later_known as later_of, HasPlace};
+
+use crate::contents::{new_contents, with_all, with_field};
+use crate::machine::Machine;
+use crate::moving::Act;
+use crate::part::Known;
+use crate::step::StepKind;
+use hm_model::{Entry, Tried};
+use hm_shape::{FIRST_NUMBER, FIRST_REFERENCE, LINK, STAMP, Version};
+
+impl Act {
+    // What the word becomes, where this was found.
+    pub(crate) fn becomes(&self, found: u64) -> u64
+        ensures { result ≡ word_after self.now found }
+    {
+        match *self {
+            Act::StoreOwn { word, .. } => word,
+            Act::Publish { .. } => 0,
+            Act::LinkStore { fresh, .. } => {
+                if found == 0 {
+                    fresh.version.name()
+                } else {
+                    found
+                }
+            }
+            _ => found,
+        }
+    }
+
+    // The entry that a caller makes by it, where this was found.
+    pub(crate) fn entry(&self, caller: u32, found: u64) -> Option<Entry>
+        ensures { result ≡ entry_of caller self.now found }
+    {
+        match *self {
+            Act::LoadLink { want, .. } if found == 0 => want,
+            Act::Publish { fresh } => Some(create_of(caller, &fresh)),
+            Act::LinkStore { entry, .. } if found == 0 => Some(entry),
+            _ => None,
+        }
+    }
+
+    // The version that it publishes, where this was found.
+    pub(crate) fn publishes(&self, found: u64) -> Option<Known>
+        ensures { result ≡ published_by self.now found }
+    {
+        match *self {
+            Act::Publish { fresh } => Some(fresh),
+            Act::LinkStore { fresh, .. } if found == 0 => Some(fresh),
+            _ => None,
+        }
+    }
+}
+
+// The Create by which a caller publishes the first version of an object.
+pub(crate) fn create_of(caller: u32, fresh: &Known) -> Entry
+    ensures { result ≡ Create caller fresh.now.name
+        fresh.now.contents.refs fresh.now.contents.numbers }
+{
+    let refs = fresh.contents.refs;
+    let numbers = fresh.contents.numbers;
+    Entry::Create {
+        caller,
+        name: fresh.name,
+        refs,
+        numbers,
+    }
+}
+
+// The act that loads word `i` of a version.
+fn field_act(at: Known, i: u32) -> Act
+    requires { 0 < i }
+    ensures { result ≡ field_load at i }
+{
+    if i == STAMP {
+        Act::LoadStamp { at }
+    } else if i < FIRST_NUMBER {
+        Act::LoadReference {
+            at,
+            i: u64::from(i - FIRST_REFERENCE),
+        }
+    } else {
+        Act::LoadNumber {
+            at,
+            i: u64::from(i - FIRST_NUMBER),
+        }
+    }
+}
+
+// The first version of the object that a Create makes.
+fn first_known(version: Version, entry: &Entry) -> Option<Known>
+    ensures { result ≡ first_of version entry.now }
+{
+    match *entry {
+        Entry::Create {
+            name,
+            refs,
+            numbers,
+            ..
+        } => Some(Known {
+            version,
+            name,
+            rank: 0,
+            contents: new_contents(refs, numbers),
+        }),
+        _ => None,
+    }
+}
+
+// The version that an entry which stores makes of one.
+fn later_known(version: Version, at: &Known, entry: &Entry) -> Option<Known>
+    requires stamp { at.now.contents.stamp + 1 < 2 ^ 64 }
+    requires rank { at.now.rank + 1 < 2 ^ 64 }
+    ensures { result ≡ later_of version at.now entry.now }
+{
+    let contents = match *entry {
+        Entry::Store { field, .. } => with_field(&at.contents, field),
+        Entry::StoreIf {
+            refs,
+            numbers,
+            answer: Tried::Stored,
+            ..
+        } => with_all(&at.contents, refs, numbers),
+        _ => return None,
+    };
+    Some(Known {
+        version,
+        name: at.name,
+        rank: at.rank + 1,
+        contents,
+    })
+}
+
+impl Machine {
+    ghost use Rattle.hm_model.specs.Store.{IsThere};
+    ghost use Rattle.hm_model.specs.History.{store_of};
+    ghost use Rattle.hm_shape.specs.declared.version.TheConstants.{VERSION_WORDS};
+    ghost use Rattle.hm_shape.specs.Versions.{IsVersionOf};
+    ghost use Rattle.hm_shape.specs.Words.{word_at};
+    ghost use Rattle.hm_core.specs.Stepping.{IsAwake};
+    ghost use Rattle.hm_core.specs.Running.{core_of, index_of, own_part, own_view};
+
+    // The act of a caller that a kind is, if it is one.
+    pub(crate) fn act_of(&self, caller: u32, kind: &StepKind) -> Option<Act>
+        requires caller { caller < self.now.shape.callers }
+        requires place { HasPlace (own_part self.now caller) kind.now }
+        ensures { result ≡ act_by (index_of self.now.known) (own_part self.now caller) kind.now }
+    {
+        match *kind {
+            StepKind::LoadField { v, i, .. } => Some(field_act(self.known(v)?, i)),
+            StepKind::LoadLink { v, entry, .. } => Some(Act::LoadLink {
+                at: self.known(v)?,
+                want: entry,
+            }),
+            StepKind::StoreOwn { i, word } => Some(Act::StoreOwn {
+                i: u64::from(i),
+                word,
+            }),
+            StepKind::Publish { entry } => Some(Act::Publish {
+                fresh: first_known(self.next_version(caller), &entry)?,
+            }),
+            StepKind::LinkStore { v, entry } => {
+                let at = self.known(v)?;
+                Some(Act::LinkStore {
+                    at,
+                    fresh: later_known(self.next_version(caller), &at, &entry)?,
+                    entry,
+                })
+            }
+            StepKind::Split | StepKind::Meet { .. } => None,
+        }
+    }
+
+    // The number of the word that an act moves.
+    pub(crate) fn word_of(&self, caller: u32, act: &Act) -> u64
+        requires caller { caller < self.now.shape.callers }
+        requires awake { IsAwake (core_of self.now) caller (own_view self.now caller)
+            (own_part self.now caller) }
+        requires may { MayTake (IsThere (store_of self.now.history)) (λ e. Unit {0})
+            (own_part self.now caller) act.now }
+        ensures value { result ≡ moved_word (own_part self.now caller) act.now }
+        ensures below { result < length self.now.words }
+    {
+        let (version, i) = self.place_of(caller, act);
+        version.word_of(self.shape, i)
+    }
+
+    // The version whose word an act moves, and which of its words.
+    fn place_of(&self, caller: u32, act: &Act) -> (Version, u32)
+        requires caller { caller < self.now.shape.callers }
+        requires awake { IsAwake (core_of self.now) caller (own_view self.now caller)
+            (own_part self.now caller) }
+        requires may { MayTake (IsThere (store_of self.now.history)) (λ e. Unit {0})
+            (own_part self.now caller) act.now }
+        ensures value { moved_word (own_part self.now caller) act.now
+            ≡ word_at self.now.shape result.0 result.1 }
+        ensures version { IsVersionOf self.now.shape result.0 }
+        ensures word { result.1 < VERSION_WORDS }
+    {
+        let _shape = &self.shape;
+        match *act {
+            Act::LoadStamp { at } => (at.version, STAMP),
+            Act::LoadReference { at, i } => (at.version, FIRST_REFERENCE + i as u32),
+            Act::LoadNumber { at, i } => (at.version, FIRST_NUMBER + i as u32),
+            Act::LoadLink { at, .. } => (at.version, LINK),
+            Act::LinkStore { at, .. } => (at.version, LINK),
+            Act::StoreOwn { i, .. } => (self.next_version(caller), i as u32),
+            Act::Publish { .. } => (self.next_version(caller), LINK),
+        }
+    }
+
+    // The version that an act finds, where the word may name one.
+    pub(crate) fn finds(&self, act: &Act, found: u64) -> Option<Known>
+        ensures { result ≡ found_by (index_of self.now.known) act.now found }
+    {
+        match act {
+            Act::LoadReference { .. } | Act::LoadLink { .. } | Act::LinkStore { .. } => {
+                self.named(found)
+            }
+            _ => None,
+        }
+    }
+}

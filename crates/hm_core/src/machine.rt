@@ -1,0 +1,224 @@
+//! The running machine: plain data that tell a moment of the heap, and what can be read off them.
+ghost use Rattle.std.specs.Prelude.{◌≡◌, ◌+◌, ◌^◌, ◌<◌, ◌≤◌, ◌↔◌, IsNone, length, slice_get, slice_index_or, option_copied, None, IsTrue, IfSome};
+ghost use Rattle.hm_shape.specs.declared.version.TheConstants.{VERSION_WORDS};
+
+use crate::chronicle::Chronicle;
+use crate::hand::Hand;
+use crate::part::{Known, MOST_HELD};
+use crate::seat::Seat;
+use hm_model::{Contents, Name, Start};
+use hm_shape::{Shape, VERSION_WORDS, Version};
+use std::alloc::{AllocError, Global};
+use std::marker::Model;
+
+/// There was no memory.
+#[derive(Clone, Copy, Debug, PartialEq, Eq)]
+pub struct Memory;
+
+impl From<AllocError> for Memory {
+    fn from(_error: AllocError) -> Memory {
+        Memory
+    }
+}
+
+/// A machine: the words of the Table, and what is known of versions, callers and seats. A version is found by
+/// its number, and an object by its name, in constant time.
+#[derive(Drop)]
+pub struct Machine {
+    pub(crate) alloc: Global,
+    pub(crate) shape: Shape,
+    pub(crate) start: Start,
+    /// The words of the Table.
+    pub(crate) words: Vec<u64>,
+    /// What is known of the version of each number, where it is published.
+    pub(crate) known: Vec<Option<Known>>,
+    /// How many places of each region are used, the regions of all callers one behind another.
+    pub(crate) used: Vec<u32>,
+    pub(crate) chronicle: Chronicle,
+    /// Of each caller, what it holds and has written.
+    pub(crate) hands: Vec<Hand>,
+    /// The callers' seats, and behind them the notes.
+    pub(crate) seats: Vec<Seat>,
+}
+
+impl Model for Machine {
+    ghost use Rattle.hm_core.specs.Running.{Moment};
+
+    ghost Value = { Moment };
+
+    ghost use Rattle.hm_core.specs.Tables.{moment_of, IsRunning};
+
+    ghost view = { moment_of };
+
+    ghost invariant = { IsRunning };
+}
+
+impl Machine {
+    ghost use Rattle.hm_shape.specs.Words.{word_count};
+    ghost use Rattle.hm_model.specs.Store.{contents_of, IsThere};
+    ghost use Rattle.hm_model.specs.History.{store_of};
+    ghost use Rattle.hm_core.specs.Chain.{lookup, IsFit};
+    ghost use Rattle.hm_core.specs.Moving.{next_version, next_name, HasRoom, HasHand};
+    ghost use Rattle.hm_core.specs.Stepping.{IsAwake, IsLookable, IsHeld};
+    ghost use Rattle.hm_core.specs.Running.{core_of, hand_at, index_of, own_part, own_view, site_of, used_at, IsSound};
+    ghost use Rattle.hm_core.specs.Safe.{IsSafe};
+
+    /// The present plain store, in order of making.
+    pub fn store(&self) -> &[(Name, Contents)]
+        ensures store { result.now ≡ store_of self.now.history }
+        ensures safe { IsSafe (site_of self.now) (core_of self.now) }
+    {
+        self.chronicle.store()
+    }
+
+    /// A word of the Table; None exactly where `i` is past it.
+    pub fn word(&self, i: u64) -> Option<u64>
+        ensures word { result ≡ slice_get self.now.words i }
+        ensures past { IsNone result ↔ (word_count self.now.shape ≤ i) }
+    {
+        self.word_at(i)
+    }
+
+    // A word of the Table, if there is one of this number.
+    fn word_at(&self, i: u64) -> Option<u64>
+        ensures word { result ≡ slice_get self.now.words i }
+        ensures sound { IsSound self.now }
+    {
+        self.words.get(i as usize).copied()
+    }
+
+    /// How many callers the heap has.
+    pub(crate) fn callers(&self) -> u32
+        ensures { result ≡ self.now.shape.callers }
+    {
+        self.shape.callers
+    }
+
+    // A seat, by its number.
+    pub(crate) fn seat(&self, j: usize) -> Option<&Seat>
+        ensures seat { option_copied result ≡ slice_get self.now.seats j }
+        ensures sound { IsSound self.now }
+    {
+        self.seats.get(j)
+    }
+
+    // How many notes were split off.
+    pub(crate) fn notes(&self) -> u64
+        ensures notes { result + self.now.shape.callers ≡ length self.now.seats }
+        ensures small { result + self.now.shape.callers < 2 ^ 64 }
+        ensures sound { IsSound self.now }
+    {
+        self.seats.len() as u64 - u64::from(self.shape.callers)
+    }
+
+    // The hand of a caller.
+    pub(crate) fn hand(&self, caller: u32) -> &Hand
+        requires { caller < self.now.shape.callers }
+        ensures hand { result.now ≡ hand_at self.now caller }
+        ensures sound { IsSound self.now }
+    {
+        &self.hands[caller as usize]
+    }
+
+    // What is known of the version of a number.
+    pub(crate) fn known(&self, v: Version) -> Option<Known>
+        ensures known { result ≡ index_of self.now.known v.0 }
+        ensures fit { IfSome result (IsFit self.now.shape) }
+        ensures sound { IsSound self.now }
+    {
+        self.known.get(v.0 as usize).copied().flatten()
+    }
+
+    // What is known of the version that a word names.
+    pub(crate) fn named(&self, word: u64) -> Option<Known>
+        ensures named { result ≡ lookup (index_of self.now.known) word }
+        ensures sound { IsSound self.now }
+    {
+        let known = self.known.as_slice();
+        match word {
+            0 => None,
+            _ => known.get((word - 1) as usize).copied().flatten(),
+        }
+    }
+
+    // Whether a caller holds a version.
+    pub(crate) fn holds(&self, caller: u32, v: Version) -> bool
+        requires { caller < self.now.shape.callers }
+        ensures { IsTrue result ↔ IsHeld (own_part self.now caller) v }
+    {
+        self.hand(caller).holds(v)
+    }
+
+    // Whether a caller may look into a version: it holds it, or published it.
+    pub(crate) fn may_look_into(&self, caller: u32, v: Version) -> bool
+        requires below { caller < self.now.shape.callers }
+        requires awake { IsAwake (core_of self.now) caller (own_view self.now caller)
+            (own_part self.now caller) }
+        ensures { IsTrue result ↔ IsLookable (own_part self.now caller) v }
+    {
+        match self.known(v) {
+            Some(_known) => v.owner(self.shape) == caller || self.holds(caller, v),
+            None => false,
+        }
+    }
+
+    // Whether a caller may hold one version more.
+    pub(crate) fn has_hand(&self, caller: u32) -> bool
+        requires { caller < self.now.shape.callers }
+        ensures { IsTrue result ↔ HasHand (own_part self.now caller) }
+    {
+        self.hand(caller).count() < MOST_HELD
+    }
+
+    // How many places of a caller's region are used.
+    pub(crate) fn used(&self, caller: u32) -> u32
+        requires { caller < self.now.shape.callers }
+        ensures { result ≡ used_at self.now caller }
+    {
+        self.used[(caller * self.shape.regions) as usize]
+    }
+
+    // Whether a place of the caller's region is left.
+    pub(crate) fn has_room(&self, caller: u32) -> bool
+        requires { caller < self.now.shape.callers }
+        ensures { IsTrue result ↔ HasRoom (own_part self.now caller) }
+    {
+        self.used(caller) < self.shape.versions
+    }
+
+    // The next version of a caller.
+    pub(crate) fn next_version(&self, caller: u32) -> Version
+        requires caller { caller < self.now.shape.callers }
+        requires room { HasRoom (own_part self.now caller) }
+        ensures { result ≡ next_version (own_part self.now caller) }
+    {
+        Version::at(self.shape, caller, 0, self.used(caller))
+    }
+
+    // Word `i` of a caller's next version, where it is written.
+    pub(crate) fn written(&self, caller: u32, i: u32) -> Option<u64>
+        requires caller { caller < self.now.shape.callers }
+        requires word { i < VERSION_WORDS }
+        ensures { result ≡ slice_index_or (own_part self.now caller).draft.written i None }
+    {
+        self.hand(caller).word(i)
+    }
+
+    // The name of a caller's next object.
+    pub(crate) fn next_name(&self, caller: u32) -> Name
+        requires { caller < self.now.shape.callers }
+        ensures { result ≡ next_name (own_part self.now caller) }
+    {
+        Name {
+            maker: caller,
+            count: self.chronicle.made(caller),
+        }
+    }
+
+    // Whether an object is there.
+    pub(crate) fn is_there(&self, name: Name) -> bool
+        ensures { IsTrue result ↔ IsThere (store_of self.now.history) name }
+    {
+        self.chronicle.contents(name).is_some()
+    }
+}

@@ -1,0 +1,234 @@
+//! A fresh machine: the starting objects are caller 0's first versions, and all callers have seen them.
+ghost use Rattle.std.specs.Prelude.{All, ◌≡◌, ◌+◌, ◌-◌, ◌^◌, ◌≤◌, ◌<◌, ◌++◌, ◌∷◌, [], map, length, replicate, slice_set, Some, None, IfOk, IfSome, OnOk};
+ghost use Rattle.hm_shape.specs.Versions.{version_count};
+ghost use Rattle.hm_model.specs.Effect.{new_contents as contents_of_new};
+ghost use Rattle.hm_model.specs.History.{AllStand, starting_count, starting_name as name_of_first};
+ghost use Rattle.hm_core.specs.Chain.{row_count};
+ghost use Rattle.hm_core.specs.Moving.{listed, nothing_written};
+ghost use Rattle.hm_core.specs.Fresh.{all_known, starting_known, IsFreshCore};
+ghost use Rattle.hm_core.specs.Firsts.{IsWritable, creates_of, name_of_side, version_of_side, word_of_first, words_of_first, head_words, first_words, first_seats};
+
+use crate::chronicle::Chronicle;
+use crate::contents::new_contents;
+use crate::cuts::create_of;
+use crate::hand::Hand;
+use crate::machine::{Machine, Memory};
+use crate::part::Known;
+use crate::seat::Seat;
+use hm_model::{Name, Start};
+use hm_shape::{Shape, Version};
+use std::alloc::{AllocError, Global};
+
+impl Machine {
+    ghost use Rattle.hm_core.specs.Running.{core_of, site_of};
+
+    /// A fresh machine. Each caller holds the version of the common object, and nothing else.
+    pub fn new(alloc: Global, shape: Shape, start: Start) -> Result<Machine, Memory>
+        requires { starting_count start ≤ shape.versions }
+        ensures fresh { IfOk result (λ machine. IsFreshCore (site_of machine) (core_of machine)) }
+        ensures shape { IfOk result (λ machine. machine.shape ≡ shape) }
+        ensures start { IfOk result (λ machine. machine.start ≡ start) }
+    {
+        let count = start.objects();
+        let firsts = starting_versions(alloc, start)?;
+        let words = starting_words(alloc, shape, firsts.as_slice())?;
+        let known = starting_index(alloc, shape, firsts.as_slice())?;
+        let chronicle = starting_chronicle(alloc, shape.callers, firsts.as_slice())?;
+        let used = starting_use(alloc, shape, count)?;
+        let hands = starting_hands(alloc, shape, Version(count - 1))?;
+        let seats = starting_seats(alloc, shape.callers, chronicle.count())?;
+        Ok(Machine {
+            alloc,
+            shape,
+            start,
+            words,
+            known,
+            used,
+            chronicle,
+            hands,
+            seats,
+        })
+    }
+}
+
+// The versions of the starting objects, the common object's last.
+fn starting_versions(alloc: Global, start: Start) -> Result<Vec<Known>, AllocError>
+    ensures { IfOk result (λ firsts. firsts.items ≡ all_known start) }
+{
+    let mut firsts = Vec::with_capacity(alloc, start.objects() as usize)?;
+    let mut refs = [None; 4];
+    for i in 0..4usize {
+        refs[i] = add_side(&mut firsts, start.sides[i])?;
+    }
+    let common = starting_version(firsts.len() as u32, refs, start.numbers);
+    firsts.push(common)?;
+    Ok(firsts)
+}
+
+// The version of a side object, where it is given, comes behind those that there are. Its name.
+fn add_side(firsts: &mut Vec<Known>, side: Option<[u64; 10]>) -> Result<Option<Name>, AllocError>
+    requires { length firsts.old.items < 2 ^ 32 }
+    ensures added { OnOk result (firsts.new.items
+        ≡ firsts.old.items ++ listed (version_of_side (length firsts.old.items) side)) }
+    ensures name { IfOk result (λ name. name ≡ name_of_side (length firsts.old.items) side) }
+{
+    let Some(numbers) = side else {
+        return Ok(None);
+    };
+    let k = firsts.len() as u32;
+    firsts.push(starting_version(k, [None; 4], numbers))?;
+    Ok(Some(starting_name(k)))
+}
+
+// The name of the k-th starting object.
+fn starting_name(k: u32) -> Name
+    ensures { result ≡ name_of_first k }
+{
+    Name {
+        maker: 0,
+        count: u64::from(k),
+    }
+}
+
+// Its version, which has its number.
+fn starting_version(k: u32, refs: [Option<Name>; 4], numbers: [u64; 10]) -> Known
+    ensures { result ≡ starting_known k (contents_of_new refs numbers) }
+{
+    Known {
+        version: Version(k),
+        name: starting_name(k),
+        rank: 0,
+        contents: new_contents(refs, numbers),
+    }
+}
+
+// The words before those of the versions: stage and replies are 0, and the first region of each caller is To.
+fn starting_head(alloc: Global, shape: Shape) -> Result<Vec<u64>, AllocError>
+    ensures { IfOk result (λ words. words.items ≡ head_words shape) }
+{
+    let callers = shape.callers as usize;
+    let mut words = vec![in alloc; 0; callers + 1]?;
+    words.resize(2 * callers + 1, 1)?;
+    Ok(words)
+}
+
+// The words of the Table. Behind those of the starting versions they are 0.
+fn starting_words(alloc: Global, shape: Shape, firsts: &[Known]) -> Result<Vec<u64>, AllocError>
+    requires few { length firsts.now ≤ shape.versions }
+    requires writable { All IsWritable firsts.now }
+    ensures { IfOk result (λ words. words.items ≡ first_words shape firsts.now) }
+{
+    let mut words = starting_head(alloc, shape)?;
+    for known in firsts {
+        words.extend_from_slice(&version_words(known))?;
+    }
+    words.resize(shape.word_count() as usize, 0)?;
+    Ok(words)
+}
+
+// The words of a starting version. A reference names the version of its object's number.
+fn version_words(known: &Known) -> [u64; 16]
+    requires { IsWritable known.now }
+    ensures { result ≡ words_of_first known.now }
+{
+    let [a, b, c, d] = known.contents.refs;
+    let [n0, n1, n2, n3, n4, n5, n6, n7, n8, n9] = known.contents.numbers;
+    [
+        0,
+        0,
+        reference_word(a),
+        reference_word(b),
+        reference_word(c),
+        reference_word(d),
+        n0,
+        n1,
+        n2,
+        n3,
+        n4,
+        n5,
+        n6,
+        n7,
+        n8,
+        n9,
+    ]
+}
+
+// The word that names the version of a starting object, or none.
+fn reference_word(name: Option<Name>) -> u64
+    requires { IfSome name (λ n. n.count + 1 < 2 ^ 64) }
+    ensures { result ≡ word_of_first name }
+{
+    match name {
+        Some(name) => name.count + 1,
+        None => 0,
+    }
+}
+
+// What is known of each version, by its number.
+fn starting_index(
+    alloc: Global,
+    shape: Shape,
+    firsts: &[Known],
+) -> Result<Vec<Option<Known>>, AllocError>
+    requires { length firsts.now ≤ shape.versions }
+    ensures { IfOk result (λ known. known.items ≡ map Some firsts.now
+        ++ replicate (version_count shape - length firsts.now) None) }
+{
+    let mut known = Vec::new(alloc);
+    for first in firsts {
+        known.push(Some(*first))?;
+    }
+    known.resize(shape.version_count() as usize, None)?;
+    Ok(known)
+}
+
+// The entries that make the starting objects.
+fn starting_chronicle(
+    alloc: Global,
+    callers: u32,
+    firsts: &[Known],
+) -> Result<Chronicle, AllocError>
+    requires callers { 0 < callers }
+    requires stand { AllStand [] (creates_of firsts.now) }
+    ensures { IfOk result (λ chronicle. chronicle
+        ≡ record { makers = callers; entries = creates_of firsts.now }) }
+{
+    let mut chronicle = Chronicle::new(alloc, callers)?;
+    for first in firsts {
+        chronicle.append(&create_of(0, first))?;
+    }
+    Ok(chronicle)
+}
+
+// How many places of each region are used: of the first as many as there are starting objects.
+fn starting_use(alloc: Global, shape: Shape, count: u32) -> Result<Vec<u32>, AllocError>
+    ensures { IfOk result (λ used. used.items ≡ slice_set (replicate (row_count shape) 0) 0 count) }
+{
+    let mut used = vec![in alloc; 0; (shape.callers * shape.regions) as usize]?;
+    used[0] = count;
+    Ok(used)
+}
+
+// Each caller holds the common object's version.
+fn starting_hands(alloc: Global, shape: Shape, common: Version) -> Result<Vec<Hand>, AllocError>
+    requires { common.0 < version_count shape }
+    ensures { IfOk result (λ hands. hands.items ≡ replicate shape.callers
+        (record { size = version_count shape; held = common ∷ []; written = nothing_written })) }
+{
+    let mut hands = Vec::new(alloc);
+    for _ in 0..shape.callers {
+        hands.push(Hand::new(alloc, shape.version_count(), common)?)?;
+    }
+    Ok(hands)
+}
+
+// The callers' seats, which have seen the opening.
+fn starting_seats(alloc: Global, callers: u32, seen: usize) -> Result<Vec<Seat>, AllocError>
+    ensures { IfOk result (λ seats. seats.items ≡ first_seats seen callers) }
+{
+    let mut seats = Vec::new(alloc);
+    for caller in 0..callers {
+        seats.push(Seat::of(alloc, caller, seen)?)?;
+    }
+    Ok(seats)
+}
