@@ -1,0 +1,110 @@
+-- The acts that load words, and what they take into the hand.
+use Rattle.std.proofs.Common.{◌≡◌, ◌⊎◌, ◌<◌, ◌≤◌, ◌+◌, ◌-◌, ◌*◌, ◌^◌, ℕ, suc, Bool, true, false, eqb-true, Option, Some, None, IfSome, if◌then◌else◌, refl, sym, ap, ◌∙◌, arith, nat_lt, inl, inr}
+use Rattle.std.specs.Prelude.{◌==◌}
+use Rattle.std.specs.Option.{option_to_list}
+use Rattle.std.proofs.lemmas.Nat.{mul-le}
+use Rattle.std.proofs.lemmas.Bool.Decides.{nat_tests}
+use Rattle.hm_shape.specs.declared.shape.Shape.{Shape}
+use Rattle.hm_shape.specs.declared.version.Version.{Version}
+use Rattle.hm_shape.specs.Versions.{version_count}
+use Rattle.hm_shape.specs.Words.{word_at, naming_word}
+use Rattle.hm_model.specs.declared.object.Name.{Name}
+use Rattle.hm_model.specs.declared.entry.Entry.{Entry}
+use Rattle.hm_core.specs.declared.part.Known.{Known}
+use Rattle.hm_core.specs.declared.part.Part.{Part}
+use Rattle.hm_core.specs.declared.moving.Act.{Act}
+use Rattle.hm_core.specs.declared.moving.Act.TheVariants.{LoadStamp, LoadReference, LoadNumber, LoadLink}
+use Rattle.hm_core.specs.Chain.{IsFit}
+use Rattle.hm_core.specs.Moving.{word_of, becomes, publishes, HasHand, MayHold, MayLookInto, MayTake}
+use Rattle.hm_core.specs.Good.{Found, IsReference, IsLink}
+use Rattle.hm_core.specs.Stepping.{field_act}
+use Rattle.hm_cells.specs.Calls.{taken, version_in}
+
+-- a word from 1 to 15 is the stamp, a reference or a number
+pub field_cases : (P : Act → Type 0) (k : Known) (i : ℕ) → 0 < i → i < 16 → (i ≡ 1 → P (LoadStamp k))
+    → ((j : ℕ) → j < 4 → i ≡ 2 + j → P (LoadReference k j))
+    → ((j : ℕ) → j < 10 → i ≡ 6 + j → P (LoadNumber k j)) → P (field_act k i)
+field_cases P k i some low a b c = go (i == 1) refl (nat_lt i 6) refl
+  where
+    go : (t : Bool) → (i == 1) ≡ t → (u : Bool) → nat_lt i 6 ≡ u
+        → P (if t then LoadStamp k else if u then LoadReference k (i - 2) else LoadNumber k (i - 6))
+    go true e u f = a (eqb-true i 1 e)
+    go false e true f = b (i - 2) (grind (arith, nat_tests)) (grind (arith, nat_tests))
+    go false e false f = c (i - 6) (grind (arith, nat_tests)) (grind (arith, nat_tests))
+
+module _ {U : Type 0} (p : Part U) (k : Known) (i : ℕ) (some : 0 < i) (low : i < 16) where
+  pub take_field : (known : Name → Type 0) (make : Entry → Type 0) → MayLookInto p k
+      → MayTake known make p (field_act k i)
+  take_field known make look = field_cases (MayTake known make p) k i some low (λ e. look)
+      (λ j small e. (look, small)) (λ j small e. (look, small))
+
+  pub hold_field : HasHand p → MayHold p (field_act k i)
+  hold_field hand = field_cases (MayHold p) k i some low (λ e. search) (λ j small e. hand) (λ j small e. hand)
+
+  pub place_field : word_of p (field_act k i) ≡ word_at p.site.shape k.version i
+  place_field = field_cases (λ act. word_of p act ≡ word_at p.site.shape k.version i) k i some low
+      (λ e. ap (word_at p.site.shape k.version) (sym e)) (λ j small e. ap (word_at p.site.shape k.version)
+      (sym e))
+      (λ j small e. ap (word_at p.site.shape k.version) (sym e))
+
+pub stays_field : (k : Known) (i : ℕ) → 0 < i → i < 16 → (x : ℕ) → becomes (field_act k i) x ≡ x
+stays_field k i some low x = field_cases (λ act. becomes act x ≡ x) k i some low (λ e. refl)
+    (λ j small e. refl)
+    (λ j small e. refl)
+
+pub quiet_field : (k : Known) (i x : ℕ) → 0 < i → i < 16 → publishes (field_act k i) x ≡ None
+quiet_field k i x some low = field_cases (λ act. publishes act x ≡ None) k i some low (λ e. refl)
+    (λ j small e. refl)
+    (λ j small e. refl)
+
+-- versions are few
+pub shape_small : (s : Shape) → version_count s ≤ 2097152
+shape_small s =
+    let a = mul-le s.callers s.regions 8 4 s.callers_fit.1 (let e = s.regions_fit in omega arith) in
+    let b = mul-le (s.callers * s.regions) s.versions 32 65536 a s.versions_fit.1 in omega arith
+
+-- a word that names a version says which
+pub naming_in : (v : Version) → version_in (naming_word (Some v)) ≡ Some v
+naming_in v = let e : v.0 + 1 ≡ suc v.0 = omega arith in ap version_in e
+
+pub named_in : (o : Option Version) (w : ℕ) → naming_word o ≡ w → o ≡ version_in w
+named_in None w e = ap version_in e
+named_in (Some v) w e = sym (naming_in v) ∙ ap version_in e
+
+-- a word that was found is small, where it names a version
+pub small_reference : (s : Shape) (x : ℕ) (found : Option Known) (r : Option Name) → IsReference x found r
+    → IfSome found (IsFit s) → x ≤ 2 ^ 32
+small_reference s x None r h fit = let e = h.0 in omega arith
+small_reference s x (Some k) r h fit = let e = h.0 in let a = fit.version in let b = shape_small s in omega
+    arith
+
+pub small_link : (s : Shape) (x : ℕ) (at : Known) (found : Option Known) → IsLink at x found
+    → IfSome found (IsFit s)
+    → x ≤ 2 ^ 32
+small_link s x at None h fit = let e = h in omega arith
+small_link s x at (Some k) h fit = let e = h.0 in let a = fit.version in let b = shape_small s in omega arith
+
+-- what a load takes into the hand
+pub hand_link : (at : Known) (want : Option Entry) (x : ℕ) (found : Option Known) → IsLink at x found
+    → taken (LoadLink at want) x found ≡ option_to_list (version_in x)
+hand_link at want x None h = ap (λ (w : ℕ). option_to_list (version_in w)) (sym h)
+hand_link at want x (Some k) h = ap option_to_list (sym (naming_in k.version) ∙ ap version_in (sym h.0))
+
+hand_reference : (at : Known) (j x : ℕ) (found : Option Known) (r : Option Name) → IsReference x found r
+    → taken (LoadReference at j) x found ≡ option_to_list (version_in x)
+hand_reference at j x None r h = ap (λ (w : ℕ). option_to_list (version_in w)) (sym h.0)
+hand_reference at j x (Some k) r h = ap option_to_list (sym (naming_in k.version) ∙ ap version_in (sym h.0))
+
+-- in terms of what is taken for named
+pub hand_field : (s : Shape) (k : Known) (i x : ℕ) (found : Option Known) (named : Option Version) → 0 < i
+    → i < 16
+    → Found (field_act k i) x found → IfSome found (IsFit s) → (2 ≤ i → i < 6 → x ≤ 2 ^ 32
+    → named ≡ version_in x)
+    → ((i < 2) ⊎ (6 ≤ i) → named ≡ None) → taken (field_act k i) x found ≡ option_to_list named
+hand_field s k i x found named some low what fit in_range none =
+    field_cases (λ act. Found act x found → taken act x found ≡ option_to_list named) k i some low
+    (λ e f. ap (taken (LoadStamp k) x) f.1 ∙ ap option_to_list (sym (none (inl (omega arith)))))
+    (λ j small e f. hand_reference k j x found _ f
+    ∙ ap option_to_list (sym (in_range (omega arith) (omega arith) (small_reference s x found _ f fit))))
+    (λ j small e f. ap (taken (LoadNumber k j) x) f.1 ∙ ap option_to_list (sym (none (inr (omega arith)))))
+    what

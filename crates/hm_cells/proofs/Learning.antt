@@ -1,0 +1,168 @@
+-- What a move of a good machine tells the caller that makes it.
+use Rattle.std.proofs.Common.{◌≡◌, ℕ, Bool, true, false, List, [], ◌∷◌, ◌++◌, slice_index, slice_set, Option, Some, None, IfSome, Contains, if◌then◌else◌, eqb-true, refl, sym, ap, subst}
+use Rattle.std.specs.List.{list_any}
+use Rattle.std.proofs.lemmas.List.Folds.{Any-from_list_any}
+use Rattle.std.proofs.lemmas.List.Elements.{Contains-push}
+use mathlib.Core.Option.{some}
+use lib.ListN.{get_elem?}
+use Rattle.hm_model.specs.declared.object.Name.{Name}
+use Rattle.hm_model.specs.declared.entry.Entry.{Entry}
+use Rattle.hm_model.specs.Store.{PlainStore, IsThere}
+use Rattle.hm_model.specs.Effect.{Stands}
+use Rattle.hm_model.specs.History.{store_of}
+use Rattle.hm_model.specs.Lawful.{UsageLaws}
+use Rattle.hm_core.specs.declared.part.Known.{Known}
+use Rattle.hm_core.specs.declared.part.Site.{Site}
+use Rattle.hm_core.specs.declared.part.Part.{Part}
+use Rattle.hm_core.specs.declared.part.View.{View}
+use Rattle.hm_core.specs.declared.moving.Move.{Move}
+use Rattle.hm_core.specs.Chain.{Index, IsPublished}
+use Rattle.hm_core.specs.Moving.{word_of, publishes, finds, index_with, is_version, without, with_held, next_version, part_after, view_after, Enabled, HasRoom, IsLawfulMove}
+use Rattle.hm_core.specs.Good.{Begins, Found, PartIsGood, Core, Good, Carries, applied}
+use Rattle.hm_core.proofs.Histories.{others_only}
+use Rattle.hm_core.proofs.Placed.{published_once}
+use Rattle.hm_core.proofs.Held.{held_stays}
+use Rattle.hm_core.proofs.Finding.{entry_by, found_now, fresh_now, next_now, index_more, index_here}
+use Rattle.hm_core.proofs.Places.{set_here}
+use Rattle.hm_core.proofs.Steps.{good_step}
+use Rattle.hm_core.proofs.Enabling.{enabled_lawful}
+use Rattle.hm_cells.specs.declared.knowledge.Knowledge.{Knowledge}
+use Rattle.hm_cells.specs.Shows.{Learnt, knowledge}
+use Rattle.hm_cells.proofs.Sure.{sure_of}
+
+-- a list with a version has one of its number
+has_number : (l : List Known) (k : Known)
+    → (m : Known) × Contains (with_held l (Some k)) m × (m.version.0 ≡ k.version.0)
+has_number l k = go (list_any (is_version k) l) refl
+  where
+    go : (t : Bool) → list_any (is_version k) l ≡ t
+        → (m : Known) × Contains (if t then l else l ++ k ∷ []) m × (m.version.0 ≡ k.version.0)
+    go true is =
+        let a = Any-from_list_any (is_version k) l is in
+        (a.1, (a.0, a.2, a.3), eqb-true a.1.version.0 k.version.0 a.4)
+    go false is = (k, Contains-push l k, refl)
+
+-- where all of a list are published, it has each version that was added
+module _ (index : Index) (l : List Known) (n : Option Known)
+    (all : (k : Known) → Contains (with_held l n) k → IsPublished index k) where
+  added : (k : Known) → n ≡ Some k → IsPublished index k → Contains (with_held l n) k
+  added k is there =
+      let a = has_number l k in
+      let here : Contains (with_held l n) a.0 = subst (λ (o : Option Known). Contains (with_held l o) a.0)
+      (sym is) a.1 in
+      subst (Contains (with_held l n)) (published_once index k a.0 there (all a.0 here) a.2) here
+
+  added_before : (old : List Known) (o : Option Known) → l ≡ with_held old o → IfSome o (IsPublished index)
+      → IfSome o (Contains (with_held l n))
+  added_before old None is there = tt
+  added_before old (Some k) is there =
+      let a = has_number old k in
+      let here : Contains (with_held l n) a.0 =
+      held_stays l n a.0 (subst (λ (x : List Known). Contains x a.0) (sym is) a.1) in
+      subst (Contains (with_held l n)) (published_once index k a.0 there (all a.0 here) a.2) here
+
+map_some : {A : Type 0} (P Q : A → Type 0) (o : Option A) → ((a : A) → o ≡ Some a → P a → Q a) → IfSome o P
+    → IfSome o Q
+map_some P Q None f h = tt
+map_some P Q (Some a) f h = f a refl h
+
+module _ {U : Type 0} (lawful : U → PlainStore → Type 0) (allowed : U → PlainStore → Entry → Type 0)
+    (laws : (u : U) → UsageLaws (lawful u) (allowed u)) where
+  module _ (c : Core U) (id : ℕ) (k : Knowledge U) (p : Part U) (m : Move)
+      (good : Good lawful allowed p.site c)
+      (seat : get_elem? c.views id ≡ some k.view) (alone : k.view.parts ≡ p ∷ [])
+      (may : IsLawfulMove lawful allowed c.heap.history p m) where
+    abbrev v : View U
+    v = k.view
+
+    at : Carries c.views id 0 v p
+    at = record { seat = seat; place = ap (λ (l : List (Part U)). get_elem? l 0) alone }
+
+    mine : PartIsGood p.site c.heap v.seen p
+    mine = good.parts id 0 v p at
+
+    begins : Begins v.seen c.heap.history
+    begins = good.seen id v seat
+
+    abbrev x : ℕ
+    x = slice_index c.heap.words (word_of p m.act)
+
+    abbrev found : Option Known
+    found = finds c.heap.index m.act x
+
+    abbrev new : Part U
+    new = part_after p m x found
+
+    abbrev w : View U
+    w = view_after v 0 c.heap.history p m x found
+
+    abbrev names : Name → Type 0
+    names = IsThere (store_of c.heap.history)
+
+    abbrev make : Entry → Type 0
+    make e = Stands (store_of c.heap.history) e → allowed p.site.usage (store_of c.heap.history) e
+
+    after : Good lawful allowed p.site (applied c id 0 v p m)
+    after = good_step lawful allowed laws p.site c id 0 v p m good at may
+
+    at_after : Carries (applied c id 0 v p m).views id 0 w new
+    at_after = record {
+      seat = set_here c.views id v w seat;
+      place = ap (λ (l : List (Part U)). get_elem? (slice_set l 0 new) 0) alone;
+    }
+
+    abbrev index : Index
+    index = index_with c.heap.index (publishes m.act x)
+
+    held : (n : Known) → Contains new.hands.held n → IsPublished index n
+    held = (after.parts id 0 w new at_after).hands.held
+
+    was_found : Found m.act x found × IfSome found (IsPublished c.heap.index)
+    was_found = found_now lawful allowed c.heap v.seen p good.heap mine names make m.act may.act x refl
+
+    there : IfSome found (IsPublished index)
+    there = map_some (IsPublished c.heap.index) (IsPublished index) found
+        (λ n is here. index_more c.heap.index (publishes m.act x) n
+        (fresh_now lawful allowed c.heap v.seen p good.heap mine names make m.act may.act x) here)
+        was_found.1
+
+    abbrev left : List Known
+    left = with_held (without p.hands.held m.let_go) found
+
+    own_learnt : Learnt lawful allowed m k p x (knowledge w)
+    own_learnt = record {
+      between = begins.rest;
+      found = found;
+      others = others_only p.number v.seen c.heap.history p.mine begins.rest begins.is mine.calls.all
+          mine.calls.seen;
+      what = was_found.0;
+      by = entry_by lawful allowed c.heap v.seen p good.heap mine names make m.act may.act x;
+      is = ap (λ (l : List Entry). knowledge (view_after v 0 l p m x found)) begins.is;
+      sure = sure_of lawful allowed p.site (applied c id 0 v p m) id 0 w new after at_after;
+      holds = added_before index left (publishes m.act x) held (without p.hands.held m.let_go) found refl
+          there;
+      next = map_some (λ n. (n.version ≡ next_version p) × HasRoom p)
+          (λ n. (n.version ≡ next_version p) × Contains new.hands.held n) (publishes m.act x)
+          (λ n is both. (
+            both.0,
+            added index left (publishes m.act x) held n is (index_here c.heap.index
+                (publishes m.act x) n is),
+          ))
+          (next_now lawful allowed c.heap v.seen p good.heap mine names make m.act may.act x);
+    }
+
+  -- every enabled move of a good machine tells this
+  pub learnt_of : (g : Site U) (c : Core U) (id : ℕ) (k : Knowledge U) (p : Part U) (m : Move)
+      → (good : Good lawful allowed g c) → (seat : get_elem? c.views id ≡ some k.view)
+      → (alone : k.view.parts ≡ p ∷ [])
+      → Enabled lawful allowed k.view.seen p m
+      → Learnt lawful allowed m k p (slice_index c.heap.words (word_of p m.act))
+      (knowledge (view_after k.view 0 c.heap.history p m (slice_index c.heap.words (word_of p m.act))
+      (finds c.heap.index m.act (slice_index c.heap.words (word_of p m.act)))))
+  learnt_of g c id k p m good seat alone may =
+      let at : Carries c.views id 0 k.view p =
+      record { seat = seat; place = ap (λ (l : List (Part U)). get_elem? l 0) alone } in
+      own_learnt c id k p m
+      (subst (λ (z : Site U). Good lawful allowed z c) (sym (good.parts id 0 k.view p at).site) good) seat
+      alone
+      (enabled_lawful lawful allowed g c id 0 k.view p m good at may)

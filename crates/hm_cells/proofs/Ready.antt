@@ -1,0 +1,73 @@
+-- When a pass may take a move, and what it knows of a version.
+use Rattle.std.proofs.Common.{◌≡◌, ℕ, not, List, Option, Some, None, IfSome, Contains, unwrap_or, refl, sym, ap, ◌∙◌, subst}
+use Rattle.std.proofs.lemmas.List.Elements.{Contains-append_cases}
+use Rattle.atomic_table.specs.declared.shared.Seat.{Seat}
+use Rattle.hm_shape.specs.declared.shape.Shape.{Shape}
+use Rattle.hm_shape.specs.declared.version.Version.{Version}
+use Rattle.hm_shape.specs.Versions.{IsVersionOf}
+use Rattle.hm_model.specs.declared.entry.Entry.{Entry}
+use Rattle.hm_model.specs.Store.{PlainStore}
+use Rattle.hm_core.specs.declared.part.Known.{Known}
+use Rattle.hm_core.specs.declared.part.Part.{Part}
+use Rattle.hm_core.specs.declared.moving.Act.{Act}
+use Rattle.hm_core.specs.Chain.{IsFit}
+use Rattle.hm_core.specs.Moving.{IsKnownName, MayHold, MayLookInto, MayMake, MayTake}
+use Rattle.hm_cells.specs.declared.knowledge.Knowledge.{Knowledge}
+use Rattle.hm_cells.specs.Grips.{Gripped}
+use Rattle.hm_cells.specs.Facts.{Facts, Fits, Made, IsSound, IsLookable, first_idle, is_kept, known_at, lookable, nothing_known}
+use Rattle.hm_cells.specs.Calls.{move_by}
+use Rattle.hm_cells.specs.Shows.{IsReady, IsSeated, facts_of}
+use Rattle.hm_cells.proofs.Found.{among, find_passes, found_there}
+
+-- what is let go of was held
+pub idle_held : (roots : List (Option Version)) (hand : List Version) (held : List Known)
+    → IfSome (first_idle roots hand held) (Contains held)
+idle_held roots hand held = go (first_idle roots hand held) refl
+  where
+    go : (o : Option Known) → first_idle roots hand held ≡ o → IfSome o (Contains held)
+    go None e = tt
+    go (Some k) e = (find_passes (λ (m : Known). not (is_kept roots hand m)) held k e).0
+
+module _ {U : Type 0} where
+  -- what is known of a version that may be looked into
+  pub known_look : (s : Facts U) (v : Version) → IsLookable s v
+      → MayLookInto s.part (known_at s v) × ((known_at s v).version ≡ v)
+  known_look s v look =
+      let k = among (lookable s.part) v look in
+      let is : known_at s v ≡ k.0 = ap (λ (o : Option Known). unwrap_or o nothing_known) k.1 in
+      let r = found_there (lookable s.part) v k.0 k.1 in (
+        subst (MayLookInto s.part) (sym is)
+            (Contains-append_cases s.part.hands.held s.part.hands.published k.0 r.0),
+        ap (λ (m : Known). m.version) is ∙ r.1,
+      )
+
+  module _ (lawful : U → PlainStore → Type 0) (allowed : U → PlainStore → Entry → Type 0) where
+    pub look_fit : (s : Facts U) (v : Version) → IsSound lawful allowed s → IsLookable s v
+        → IsFit s.part.site.shape (known_at s v)
+    look_fit s v sound look = sound.sure.fit (known_at s v) (known_look s v look).0
+
+    -- such a version is one of the heap's
+    pub look_version : (s : Facts U) (m : Made U) (v : Version) → IsSound lawful allowed s → Fits s m
+        → IsLookable s v
+        → IsVersionOf m.site.shape v
+    look_version s m v sound fits look =
+        subst (λ (w : Version). IsVersionOf m.site.shape w) (known_look s v look).1
+        (subst (λ (g : _). IsVersionOf g.shape (known_at s v).version) fits.site
+        (look_fit s v sound look).version)
+
+    module _ (seat : Seat (Unit {0}) (Knowledge U)) (grip : Gripped U) (shape : Shape) (number used : ℕ)
+        (seated : IsSeated lawful allowed seat (facts_of seat grip) shape number used) (act : Act) where
+      abbrev s : Facts U
+      s = facts_of seat grip
+
+      -- an act that the pass may take makes it ready
+      pub ready : (P : Part U → Type 0)
+          → MayTake (IsKnownName s.part)
+          (MayMake (lawful s.part.site.usage) (allowed s.part.site.usage) s.seen s.part.number) s.part act
+          → MayHold s.part act → P s.part → IsReady lawful allowed seat.me.0 (move_by s act) P
+      ready P may hold here = record {
+        caller = s.part;
+        alone = seated.alone;
+        enabled = record { act = may; holds = hold; let_go = idle_held s.roots s.hand s.part.hands.held };
+        moves = here;
+      }

@@ -1,0 +1,251 @@
+-- What a move leaves of what a pass knew, for the calls that take several.
+use Rattle.std.proofs.Common.{◌≡◌, ◌≢◌, ◌⊎◌, ◌<◌, ◌≤◌, ◌+◌, ◌&&◌, ℕ, zero, suc, Bool, true, false, true≢false, List, [], ◌∷◌, ◌++◌, length, get_or, set, Option, Some, None, IfSome, Contains, unwrap_or, if◌then◌else◌, eqb-true, refl, sym, ap, ◌∙◌, subst, arith, inl, inr, ⊎_elim, get_or-set_same, get_or-set_other}
+use Rattle.std.specs.Prelude.{◌==◌}
+use Rattle.std.proofs.lemmas.List.Elements.{All-contains, Contains-append_right}
+use Rattle.hm_shape.specs.declared.version.Version.{Version}
+use Rattle.hm_shape.specs.Words.{naming_word}
+use Rattle.hm_model.specs.declared.entry.Entry.{Entry}
+use Rattle.hm_model.specs.Store.{PlainStore}
+use Rattle.hm_core.specs.declared.part.Known.{Known}
+use Rattle.hm_core.specs.declared.moving.Act.{Act}
+use Rattle.hm_core.specs.declared.moving.Act.TheVariants.{LoadStamp, LoadReference, LoadNumber, LoadLink, StoreOwn, Publish, LinkStore}
+use Rattle.hm_core.specs.Chain.{IsFit}
+use Rattle.hm_core.specs.Moving.{publishes, is_naming, listed, unless_named, unnamed_from, unnamed, written_with, IsWritten}
+use Rattle.hm_core.specs.Stepping.{field_act}
+use Rattle.hm_cells.specs.Facts.{Facts, IsHeldAt, IsLookable, IsSound, find_version, first_idle, known_at, lookable, nothing_known}
+use Rattle.hm_cells.specs.Calls.{Takes, taken}
+use Rattle.hm_cells.proofs.Fields.{field_cases}
+use Rattle.hm_cells.proofs.Few.{few_after, not_both}
+use Rattle.hm_cells.proofs.Found.{IsNamed, among, at_place, found_first, idle_other, named_stays, there_found, there_is}
+use Rattle.hm_cells.proofs.Ready.{known_look, look_fit}
+
+-- a word of a version, by which act it is loaded
+pub stamp_act : (k : Known) → field_act k 1 ≡ LoadStamp k
+stamp_act k = refl
+
+pub reference_act : (k : Known) (i : ℕ) → i < 4 → field_act k (2 + i) ≡ LoadReference k i
+reference_act k i low = field_cases (λ act. act ≡ LoadReference k i) k (2 + i) (omega arith) (omega arith)
+    (λ e. absurd (omega arith))
+    (λ j small e. let same : j ≡ i = omega arith in ap (LoadReference k) same)
+    (λ j small e. absurd (omega arith))
+
+pub number_act : (k : Known) (i : ℕ) → i < 10 → field_act k (6 + i) ≡ LoadNumber k i
+number_act k i low = field_cases (λ act. act ≡ LoadNumber k i) k (6 + i) (omega arith) (omega arith)
+    (λ e. absurd (omega arith))
+    (λ j small e. absurd (omega arith))
+    (λ j small e. let same : j ≡ i = omega arith in ap (LoadNumber k) same)
+
+-- words of a draft that stay written where a version is let go
+unless_still : (k : Known) (i w : ℕ) → (is_naming i && (w == naming_word (Some k.version))) ≡ false
+    → unless_named k i (Some w) ≡ Some w
+unless_still k i w e = ap (λ (t : Bool). if t then None else Some w) e
+
+unnamed_still_from : (k : Known) (i : ℕ) (l : List (Option ℕ)) (j w : ℕ) → get_or l j None ≡ Some w
+    → (is_naming (j + i) && (w == naming_word (Some k.version))) ≡ false
+    → get_or (unnamed_from k i l) j None ≡ Some w
+unnamed_still_from k i [] j w e h = e
+unnamed_still_from k i (x ∷ xs) zero w e h =
+    let at : zero + i ≡ i = omega arith in
+    ap (unless_named k i) e
+    ∙ unless_still k i w (ap (λ (n : ℕ). is_naming n && (w == naming_word (Some k.version))) (sym at) ∙ h)
+unnamed_still_from k i (x ∷ xs) (suc j) w e h =
+    let at : j + (i + 1) ≡ suc j + i = omega arith in
+    unnamed_still_from k (i + 1) xs j w e
+    (ap (λ (n : ℕ). is_naming n && (w == naming_word (Some k.version))) at ∙ h)
+
+unnamed_still : (o : Option Known) (l : List (Option ℕ)) (j w : ℕ) → IsWritten l j w
+    → IfSome o (λ k. (is_naming j && (w == naming_word (Some k.version))) ≡ false)
+    → IsWritten (unnamed o l) j w
+unnamed_still None l j w e h = e
+unnamed_still (Some k) l j w e h =
+    let at : j ≡ j + 0 = omega arith in
+    unnamed_still_from k 0 l j w e
+    (ap (λ (n : ℕ). is_naming n && (w == naming_word (Some k.version))) (sym at) ∙ h)
+
+module _ {U : Type 0} (lawful : U → PlainStore → Type 0) (allowed : U → PlainStore → Entry → Type 0) where
+  -- a root place or the hand names a version
+  abbrev pub IsKept : Facts U → Version → Type 0
+  IsKept s v = ((i : ℕ) × (get_or s.roots i None ≡ Some v)) ⊎ Contains s.hand v
+
+  kept_named : (s : Facts U) (v : Version) → IsKept s v → IsNamed s.roots s.hand v
+  kept_named s v kept = ⊎_elim
+      (λ (t : (i : ℕ) × (get_or s.roots i None ≡ Some v)). inl (at_place s.roots t.0 (Some v) None t.1
+      (λ e. cc)))
+      (λ (t : Contains s.hand v). inr t) kept
+
+  -- a held version is what is known of it, and so is any that may be looked into
+  pub kept_held : (s : Facts U) (v : Version) → IsSound lawful allowed s → IsKept s v → IsHeldAt s v
+  kept_held s v sound kept = ⊎_elim
+      (λ (t : Contains s.roots (Some v)). All-contains (λ r. IfSome r (IsHeldAt s)) s.roots
+      (Some v) sound.rooted t)
+      (λ (t : Contains s.hand v). All-contains (IsHeldAt s) s.hand v sound.handed t) (kept_named s v kept)
+
+  look_first : (s : Facts U) (v : Version) (k : Known) → find_version s.part.hands.held v ≡ Some k
+      → find_version (lookable s.part) v ≡ Some k
+  look_first s v k e = found_first s.part.hands.held s.part.hands.published v k e
+
+  known_is : (s : Facts U) (v : Version) (k : Known) → find_version s.part.hands.held v ≡ Some k
+      → known_at s v ≡ k
+  known_is s v k e = ap (λ (o : Option Known). unwrap_or o nothing_known) (look_first s v k e)
+
+  pub held_lookable : (s : Facts U) (v : Version) → IsHeldAt s v → IsLookable s v
+  held_lookable s v held =
+      let m = among s.part.hands.held v held in ap Rattle.std.proofs.Common.is_some (look_first s v m.0 m.1)
+
+  pub known_version : (s : Facts U) (v : Version) → IsLookable s v → (known_at s v).version ≡ v
+  known_version s v look = (known_look s v look).1
+
+  pub known_fit : (s : Facts U) (v : Version) → IsSound lawful allowed s → IsLookable s v
+      → IsFit s.part.site.shape (known_at s v)
+  known_fit s v sound look = look_fit lawful allowed s v sound look
+
+  -- a version that is held is what is known of its number
+  pub held_known : (s : Facts U) (k : Known) → IsSound lawful allowed s → Contains s.part.hands.held k
+      → IsHeldAt s k.version × (known_at s k.version ≡ k)
+  held_known s k sound there = (
+    there_found s.part.hands.held k there,
+    known_is s k.version k
+        (there_is s.part.hands.held k there (λ a b x y e. sound.sure.once a b (inl x) (inl y) e)),
+  )
+
+  module _ (s t : Facts U) (act : Act) (x : ℕ) (sound : IsSound lawful allowed s)
+      (after : IsSound lawful allowed t)
+      (took : Takes lawful allowed s act x t) where
+    abbrev idle : Option Known
+    idle = first_idle s.roots s.hand s.part.hands.held
+
+    held_is : t.part.hands.held
+        ≡ Rattle.hm_cells.proofs.Found.held_after s.roots s.hand s.part.hands.held took.found
+        (publishes act x)
+    held_is = ap (λ (f : Facts U). f.part.hands.held) took.is
+
+    hand_is : t.hand ≡ s.hand ++ taken act x took.found
+    hand_is = ap (λ (f : Facts U). f.hand) took.is
+
+    -- what a root place or the hand names stays held, and is known as before
+    pub kept_stays : (v : Version) → IsKept s v → IsHeldAt t v × (known_at t v ≡ known_at s v)
+    kept_stays v kept =
+        let m = among s.part.hands.held v (kept_held s v sound kept) in
+        let e : find_version t.part.hands.held v ≡ Some m.0 =
+        ap (λ (l : List Known). find_version l v) held_is
+        ∙ named_stays s.roots s.hand s.part.hands.held took.found (publishes act x) v m.0
+        (kept_named s v kept) m.1 in
+        (ap Rattle.std.proofs.Common.is_some e, known_is t v m.0 e ∙ sym (known_is s v m.0 m.1))
+
+    -- what was found is held and in hand
+    pub found_held : (k : Known) → took.found ≡ Some k
+        → IsHeldAt t k.version × (known_at t k.version ≡ k) × Contains t.hand k.version
+    found_held k is =
+        let there : Contains t.part.hands.held k =
+        subst (λ (o : Option Known). IfSome o (Contains t.part.hands.held)) is took.holds in
+        let h = held_known t k after there in
+        let hand : Contains (s.hand ++ taken act x took.found) k.version =
+        Contains-append_right s.hand (taken act x took.found) k.version
+        (subst (λ (o : Option Known). Contains (taken act x o) k.version) (sym is)
+        (zero, omega arith, refl)) in
+        (h.0, h.1, subst (λ (l : List Version). Contains l k.version) (sym hand_is) hand)
+
+    -- what was published is held and in hand
+    pub new_held : (k : Known) → publishes act x ≡ Some k
+        → IsHeldAt t k.version × (known_at t k.version ≡ k) × Contains t.hand k.version
+    new_held k is =
+        let there : Contains t.part.hands.held k =
+        subst (λ (o : Option Known). IfSome o (Contains t.part.hands.held)) is took.holds_new in
+        let h = held_known t k after there in
+        let hand : Contains (s.hand ++ taken act x took.found) k.version =
+        Contains-append_right s.hand (taken act x took.found) k.version (in_hand took.found) in
+        (h.0, h.1, subst (λ (l : List Version). Contains l k.version) (sym hand_is) hand)
+      where
+        listed_in : (o : Option Known) → Contains (Rattle.std.proofs.Common.map (λ (m : Known). m.version)
+            (listed o ++ (k ∷ []))) k.version
+        listed_in None = (zero, omega arith, refl)
+        listed_in (Some m) = (1, omega arith, refl)
+
+        in_hand : (o : Option Known) → Contains (taken act x o) k.version
+        in_hand o = subst (λ (n : Option Known). Contains (Rattle.std.proofs.Common.map (λ
+            (m : Known). m.version) (listed o ++ listed n)) k.version)
+            (sym is) (listed_in o)
+
+    -- where few are held and few are in hand, few are held afterwards
+    pub held_few : (n : ℕ) → length s.part.hands.held ≤ n → 257 + length s.hand ≤ n
+        → length t.part.hands.held ≤ n
+    held_few n few hand =
+        let room : length s.roots + length s.hand + 1 ≤ n = omega (arith, sound.wide) in
+        subst (λ (l : List Known). length l ≤ n) (sym held_is)
+        (few_after s.roots s.hand s.part.hands.held took.found (publishes act x) sound.apart
+        (not_both act x took.found took.what) n few room)
+
+    -- a word may stay written: it names no version, or one that a root place or the hand names
+    abbrev pub IsSafe : ℕ → ℕ → Type 0
+    IsSafe j w = (is_naming j ≡ false) ⊎ ((w ≡ 0) ⊎ ((v : Version) × (w ≡ naming_word (Some v)) × IsKept s v))
+
+    safe_test : (j w : ℕ) → IsSafe j w → IfSome idle (λ k. (is_naming j && (w == naming_word
+        (Some k.version))) ≡ false)
+    safe_test j w safe = ⊎_elim
+        (λ (e : is_naming j ≡ false). quiet idle e)
+        (λ (r : (w ≡ 0) ⊎ ((v : Version) × (w ≡ naming_word (Some v)) × IsKept s v)). ⊎_elim
+        (λ (e : w ≡ 0). nought idle e)
+        (λ (c : (v : Version) × (w ≡ naming_word (Some v)) × IsKept s v).
+        named idle c.0 c.1 (idle_other s.roots s.hand s.part.hands.held c.0 (kept_named s c.0 c.2))) r)
+        safe
+      where
+        both_false : (a b : Bool) → b ≡ false → (a && b) ≡ false
+        both_false true b e = e
+        both_false false b e = refl
+
+        other : (m n : ℕ) → m ≢ n → (m == n) ≡ false
+        other m n ne = Rattle.std.proofs.Common.ne_eqb m n ne
+
+        quiet : (o : Option Known) → is_naming j ≡ false
+            → IfSome o (λ k. (is_naming j && (w == naming_word (Some k.version))) ≡ false)
+        quiet None e = tt
+        quiet (Some k) e = ap (λ (b : Bool). b && (w == naming_word (Some k.version))) e
+
+        nought : (o : Option Known) → w ≡ 0
+            → IfSome o (λ k. (is_naming j && (w == naming_word (Some k.version))) ≡ false)
+        nought None e = tt
+        nought (Some k) e = both_false (is_naming j) (w == naming_word (Some k.version))
+            (other w (naming_word (Some k.version)) (λ z. omega arith))
+
+        named : (o : Option Known) (v : Version) → w ≡ naming_word (Some v)
+            → IfSome o (λ k. k.version.0 ≢ v.0)
+            → IfSome o (λ k. (is_naming j && (w == naming_word (Some k.version))) ≡ false)
+        named None v e h = tt
+        named (Some k) v e h = both_false (is_naming j) (w == naming_word (Some k.version))
+            (other w (naming_word (Some k.version)) (λ z. h (omega arith)))
+
+    written_is : t.part.draft.written ≡ unnamed idle (written_with s.part.draft.written act (publishes act x))
+    written_is = ap (λ (f : Facts U). f.part.draft.written) took.is
+
+    -- such a word stays written, where the act publishes nothing and stores another word or none
+    pub written_stays : (j w : ℕ) → publishes act x ≡ None → ((i word : ℕ) → act ≡ StoreOwn i word → i ≢ j)
+        → IsWritten s.part.draft.written j w → IsSafe j w → IsWritten t.part.draft.written j w
+    written_stays j w none other was safe =
+        subst (λ (l : List (Option ℕ)). IsWritten l j w) (sym written_is)
+        (unnamed_still idle (written_with s.part.draft.written act (publishes act x)) j w
+        (subst (λ (o : Option Known). IsWritten (written_with s.part.draft.written act o) j w) (sym none)
+        (before act other))
+        (safe_test j w safe))
+      where
+        before : (a : Act) → ((i word : ℕ) → a ≡ StoreOwn i word → i ≢ j)
+            → IsWritten (written_with s.part.draft.written a None) j w
+        before (LoadStamp at) f = was
+        before (LoadReference at i) f = was
+        before (LoadNumber at i) f = was
+        before (LoadLink at want) f = was
+        before (StoreOwn i word) f =
+            get_or-set_other s.part.draft.written i j (Some word) None (λ e. f i word refl (sym e)) ∙ was
+        before (Publish fresh) f = was
+        before (LinkStore at fresh entry) f = was
+
+    -- and so does one that the act stores
+    pub written_here : (i word : ℕ) → act ≡ StoreOwn i word → i < 16 → IsSafe i word
+        → IsWritten t.part.draft.written i word
+    written_here i word is low safe =
+        let wide = sound.sure.wide in
+        let here : IsWritten (written_with s.part.draft.written act (publishes act x)) i word =
+        subst (λ (a : Act). IsWritten (written_with s.part.draft.written a (publishes a x)) i word) (sym is)
+        (get_or-set_same s.part.draft.written i (Some word) None (omega arith)) in
+        subst (λ (l : List (Option ℕ)). IsWritten l i word) (sym written_is)
+        (unnamed_still idle (written_with s.part.draft.written act (publishes act x)) i word here
+        (safe_test i word safe))

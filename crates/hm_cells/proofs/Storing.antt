@@ -1,0 +1,220 @@
+-- When a pass may store a word of its next version, and what that leaves.
+use Rattle.std.proofs.Common.{◌≡◌, ◌<◌, ◌≤◌, ◌+◌, ℕ, zero, suc, true, [], ◌∷◌, ◌++◌, get_or, Option, Some, None, IsSome, IfSome, Contains, unwrap_or, refl, sym, ap, ◌∙◌, subst, arith, inl, ⊎_elim, append-nil}
+use Rattle.std.specs.Prelude.{slice_index}
+use Rattle.std.specs.Option.{option_map, option_to_list}
+use Rattle.atomic_table.specs.declared.shared.Seat.{Seat}
+use Rattle.hm_shape.specs.declared.shape.Shape.{Shape}
+use Rattle.hm_shape.specs.declared.version.Version.{Version}
+use Rattle.hm_shape.specs.Versions.{IsAt, version_at}
+use Rattle.hm_shape.specs.Words.{word_at, naming_word}
+use Rattle.hm_model.specs.declared.object.Name.{Name}
+use Rattle.hm_model.specs.declared.entry.Entry.{Entry}
+use Rattle.hm_model.specs.declared.entry.Entry.TheVariants.{Create}
+use Rattle.hm_model.specs.Store.{PlainStore}
+use Rattle.hm_core.specs.declared.part.Known.{Known}
+use Rattle.hm_core.specs.declared.part.Site.{Site}
+use Rattle.hm_core.specs.declared.part.Part.{Part}
+use Rattle.hm_core.specs.declared.moving.Act.TheVariants.{StoreOwn, Publish}
+use Rattle.hm_core.specs.Chain.{reference_at}
+use Rattle.hm_core.specs.Moving.{IsFirst, IsKnownName, IsWritten, MayMake, Names, Spells, HasHand, HasRoom, is_naming, next_name, next_version}
+use Rattle.hm_cells.specs.declared.knowledge.Knowledge.{Knowledge}
+use Rattle.hm_cells.specs.Grips.{Gripped}
+use Rattle.hm_cells.specs.Facts.{Facts, Fits, Made, IsSound, find_version, place_name}
+use Rattle.hm_cells.specs.Calls.{IsWhole, MayPublish, drafted, drafted_name, drafted_numbers, drafted_refs, drafted_word, move_by, taken, version_in}
+use Rattle.hm_cells.specs.Shows.{IsReady, IsSeated, Learns, Stores, facts_of}
+use Rattle.hm_cells.proofs.Fields.{naming_in}
+use Rattle.hm_cells.proofs.Found.{there_is}
+use Rattle.hm_cells.proofs.Ready.{ready}
+use Rattle.hm_cells.proofs.Wanting.{place_known}
+
+there_written : (o : Option ℕ) → IsSome o → o ≡ Some (unwrap_or o 0)
+there_written None h = cc
+there_written (Some w) h = refl
+
+module _ {U : Type 0} (lawful : U → PlainStore → Type 0) (allowed : U → PlainStore → Entry → Type 0) where
+  -- a whole draft is built
+  module _ (s : Facts U) (sound : IsSound lawful allowed s) (whole : IsWhole s.part) where
+    abbrev p : Part U
+    p = s.part
+
+    written : (j : ℕ) → 1 ≤ j → j < 16 → IsWritten p.draft.written j (drafted_word p j)
+    written j some low = there_written (get_or p.draft.written j None) (whole.written j some low)
+
+    names_spell : (w : ℕ) → Names p.hands.held w → Spells p.hands.held w (place_name p.hands.held
+        (version_in w))
+    names_spell w n = ⊎_elim
+        (λ (t : w ≡ 0). subst (λ (x : ℕ). Spells p.hands.held x (place_name p.hands.held (version_in x)))
+        (sym t) refl)
+        (λ (t : (k : Known) × Contains p.hands.held k × (w ≡ naming_word (Some k.version))).
+        let found : find_version p.hands.held t.0.version ≡ Some t.0 =
+        there_is p.hands.held t.0 t.1 (λ a b x y e. sound.sure.once a b (inl x) (inl y) e) in
+        let name : Some t.0.name ≡ place_name p.hands.held (version_in w) =
+        sym (ap (option_map (λ (k : Known). k.name)) found)
+        ∙ ap (place_name p.hands.held) (sym (naming_in t.0.version) ∙ ap version_in (sym t.2)) in
+        subst (Spells p.hands.held w) name (t.0, t.1, t.2, refl))
+        n
+
+    refs_spell : (i : ℕ) → is_naming (2 + i) ≡ true → i < 4
+        → (w : ℕ) × IsWritten p.draft.written (2 + i) w × Spells p.hands.held w (drafted_name p i)
+    refs_spell i naming low =
+        let is : IsWritten p.draft.written (2 + i) (drafted_word p (2 + i)) = written (2 + i) (omega arith)
+        (omega arith) in (
+          drafted_word p (2 + i),
+          is,
+          names_spell (drafted_word p (2 + i)) (sound.sure.named (2 + i) (drafted_word p (2 + i)) naming is),
+        )
+
+    refs_built : (i : ℕ) → i < 4 → (w : ℕ) × IsWritten p.draft.written (2 + i) w
+        × Spells p.hands.held w (reference_at (drafted p).contents i)
+    refs_built zero low = refs_spell 0 refl low
+    refs_built (suc zero) low = refs_spell 1 refl low
+    refs_built (suc (suc zero)) low = refs_spell 2 refl low
+    refs_built (suc (suc (suc zero))) low = refs_spell 3 refl low
+    refs_built (suc (suc (suc (suc i)))) low = absurd (omega arith)
+
+    numbers_built : (i : ℕ) → i < 10 → IsWritten p.draft.written (6 + i) (slice_index (drafted_numbers p) i)
+    numbers_built zero low = written 6 (omega arith) (omega arith)
+    numbers_built (suc zero) low = written 7 (omega arith) (omega arith)
+    numbers_built (suc (suc zero)) low = written 8 (omega arith) (omega arith)
+    numbers_built (suc (suc (suc zero))) low = written 9 (omega arith) (omega arith)
+    numbers_built (suc (suc (suc (suc zero)))) low = written 10 (omega arith) (omega arith)
+    numbers_built (suc (suc (suc (suc (suc zero))))) low = written 11 (omega arith) (omega arith)
+    numbers_built (suc (suc (suc (suc (suc (suc zero)))))) low = written 12 (omega arith) (omega arith)
+    numbers_built (suc (suc (suc (suc (suc (suc (suc zero))))))) low = written 13 (omega arith) (omega arith)
+    numbers_built (suc (suc (suc (suc (suc (suc (suc (suc zero)))))))) low = written 14 (omega arith)
+        (omega arith)
+    numbers_built (suc (suc (suc (suc (suc (suc (suc (suc (suc zero))))))))) low = written 15 (omega arith)
+        (omega arith)
+    numbers_built (suc (suc (suc (suc (suc (suc (suc (suc (suc (suc i)))))))))) low = absurd (omega arith)
+
+    stamp_built : IsWritten p.draft.written 1 0
+    stamp_built = written 1 (omega arith) (omega arith) ∙ ap Some whole.stamp
+
+    refs_known : (i : ℕ) (d : Option Name) → i < 4 → IfSome (get_or (drafted_refs p) i d) (IsKnownName p)
+    refs_known zero d low = place_known p (version_in (drafted_word p 2))
+    refs_known (suc zero) d low = place_known p (version_in (drafted_word p 3))
+    refs_known (suc (suc zero)) d low = place_known p (version_in (drafted_word p 4))
+    refs_known (suc (suc (suc zero))) d low = place_known p (version_in (drafted_word p 5))
+    refs_known (suc (suc (suc (suc i)))) d low = absurd (omega arith)
+
+    pub first_built : HasRoom p → IsFirst (IsKnownName p) p (drafted p)
+    first_built room = record {
+      room = room;
+      version = refl;
+      name = refl;
+      rank = refl;
+      stamp = refl;
+      names = λ i d low. refs_known i d low;
+      built = record {
+        sized = record { four = refl; ten = refl };
+        stamp = stamp_built;
+        refs = refs_built;
+        numbers = numbers_built;
+      };
+    }
+
+    pub create_may : MayPublish lawful allowed s
+        → MayMake (lawful p.site.usage) (allowed p.site.usage) s.seen p.number
+        (Create p.number (next_name p) (drafted_refs p) (drafted_numbers p))
+    create_may may store leads stands = may (next_name p) store
+        record {
+          between = leads.between;
+          others = leads.others;
+          come = leads.come;
+          here = leads.here;
+          store
+              = leads.store;
+        }
+        stands
+
+  module _ (seat : Seat (Unit {0}) (Knowledge U)) (grip : Gripped U) (shape : Shape) (number used : ℕ)
+      (seated : IsSeated lawful allowed seat (facts_of seat grip) shape number used) (o : Facts U)
+      (is : facts_of seat grip ≡ o) (v : Version) (at : IsAt shape v number 0 used) where
+    abbrev here : Facts U
+    here = facts_of seat grip
+
+    pub next_is : next_version here.part ≡ v
+    next_is =
+        (λ i. version_at (seated.shape_is i) (seated.number_is i) (seated.sound.region i) (seated.used_is i))
+        ∙ sym at.number
+
+    module _ (m : Made U) (fits : Fits o m) where
+      word_here : (i : ℕ) → word_at here.part.site.shape (next_version here.part) i ≡ word_at m.site.shape v i
+      word_here i = ap (λ (w : Version). word_at here.part.site.shape w i) next_is
+          ∙ ap (λ (g : Site U). word_at g.shape v i) (subst (λ (f : Facts U). Fits f m) (sym is) fits).site
+
+      pub own_ready : (i word : ℕ) → i < 16 → HasRoom o.part → (is_naming i ≡ true
+          → Names o.part.hands.held word)
+          → IsReady lawful allowed seat.me.0 (move_by here (StoreOwn i word))
+          (Stores lawful allowed (move_by here (StoreOwn i word)) (word_at m.site.shape v i) word)
+      own_ready i word low room named =
+          ready lawful allowed seat grip shape number used seated (StoreOwn i word)
+          (Stores lawful allowed (move_by here (StoreOwn i word)) (word_at m.site.shape v i) word)
+          record {
+            below = low;
+            room = subst (λ (f : Facts U). HasRoom f.part) (sym is) room;
+            named = λ n. subst (λ (f : Facts U). Names f.part.hands.held word) (sym is) (named n);
+          }
+          tt
+          record {
+            place = word_here i;
+            value_is = λ x. refl;
+            blind = λ k l x y t. record {
+              between = t.between;
+              found = t.found;
+              others = t.others;
+              what = t.what;
+              by = t.by;
+              is = t.is;
+              sure = t.sure;
+              holds = t.holds;
+              next = t.next;
+            };
+          }
+
+      pub first_ready : HasRoom o.part → HasHand o.part → IsWhole o.part → MayPublish lawful allowed o
+          → IsReady lawful allowed seat.me.0 (move_by here (Publish (drafted here.part)))
+          (Stores lawful allowed (move_by here (Publish (drafted here.part))) (word_at m.site.shape v 0) 0)
+      first_ready room hand whole may =
+          let whole' : IsWhole here.part = subst (λ (f : Facts U). IsWhole f.part) (sym is) whole in
+          ready lawful allowed seat grip shape number used seated (Publish (drafted here.part))
+          (Stores lawful allowed (move_by here (Publish (drafted here.part))) (word_at m.site.shape v 0) 0) (
+            first_built here seated.sound whole' (subst (λ (f : Facts U). HasRoom f.part) (sym is) room),
+            create_may here seated.sound whole' (subst (MayPublish lawful allowed) (sym is) may),
+          )
+          (subst (λ (f : Facts U). HasHand f.part) (sym is) hand)
+          record {
+            place = word_here 0;
+            value_is = λ x. refl;
+            blind = λ k l x y t. record {
+              between = t.between;
+              found = t.found;
+              others = t.others;
+              what = t.what;
+              by = t.by;
+              is = t.is;
+              sure = t.sure;
+              holds = t.holds;
+              next = t.next;
+            };
+          }
+
+    module _ (seat' : Seat (Unit {0}) (Knowledge U)) (x : ℕ) where
+      -- a store takes nothing into the hand
+      pub own_hand : (i word : ℕ) → (learns : Learns lawful allowed (move_by here
+          (StoreOwn i word)) seat.me.0 x seat'.me.0)
+          → grip.hand ≡ grip.hand ++ taken (StoreOwn i word) x (learns here.part seated.alone).found
+      own_hand i word learns =
+          sym (ap (λ (f : Option Known). grip.hand ++ taken (StoreOwn i word) x f)
+          (learns here.part seated.alone).what
+          ∙ append-nil grip.hand)
+
+      -- what is published is in hand
+      pub first_hand : (learns : Learns lawful allowed (move_by here (Publish
+          (drafted here.part))) seat.me.0 x seat'.me.0)
+          → grip.hand ++ option_to_list (Some v)
+          ≡ grip.hand ++ taken (Publish (drafted here.part)) x (learns here.part seated.alone).found
+      first_hand learns =
+          ap (λ (w : Version). grip.hand ++ w ∷ []) (sym next_is)
+          ∙ sym (ap (λ (f : Option Known). grip.hand ++ taken (Publish (drafted here.part)) x f)
+          (learns here.part seated.alone).what)

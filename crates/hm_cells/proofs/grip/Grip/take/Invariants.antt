@@ -1,0 +1,6 @@
+use Rattle.std.specs.Prelude.{◌++◌}
+use Rattle.std.specs.Option.{option_to_list}
+use Rattle.hm_cells.proofs.grip.Grip.take.Given as goal
+
+abbrev pub ghosts-step : goal.ghosts-step
+ghosts-step g a = record { picked = a.self.now.hand ++ option_to_list a._version }

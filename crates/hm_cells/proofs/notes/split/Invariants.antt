@@ -1,0 +1,7 @@
+use Rattle.hm_core.specs.declared.moving.Act.TheVariants.{StoreOwn}
+use Rattle.hm_cells.specs.Calls.{move_by}
+use Rattle.hm_cells.specs.Shows.{facts_of}
+use Rattle.hm_cells.proofs.notes.split.Given as goal
+
+abbrev pub ghosts-look : goal.ghosts-look
+ghosts-look g a = record { picked = move_by (facts_of a.seat.now a._grip.now) (StoreOwn 0 0) }

@@ -1,0 +1,25 @@
+use Rattle.std.proofs.Common.{◌≡◌, ◌<◌, length, Option, ap, sym, ◌∙◌, subst, arith}
+use Rattle.hm_model.specs.declared.object.Name.{Name}
+use Rattle.hm_model.specs.Sight.{SetsRoot, root_of}
+use Rattle.hm_cells.specs.Facts.{Facts, place_name, sight_of}
+use Rattle.hm_cells.specs.Grips.{Gripped}
+use Rattle.hm_cells.specs.Shows.{facts_of}
+use Rattle.hm_cells.proofs.Rooted.{name_place, sets_root}
+use Rattle.hm_cells.proofs.pass.Pass.copy_root.Goals as goal
+
+pub returns-clause-names : goal.returns-clause-names
+returns-clause-names g c =
+    let i = c.self.inside in
+    let s : Facts g.row.U.Denot = facts_of i.seat i.grip in
+    let low : c.args.to.0 < length i.grip.roots = omega (arith, c.self.invariant.sound.wide, c.requires.to) in
+    let here = sets_root s c.args.to c.root-version.result low in
+    let name : place_name s.part.hands.held c.root-version.result ≡ root_of (sight_of s) c.args.from =
+    ap (place_name s.part.hands.held) c.root-version.ensures
+    ∙ sym (name_place s.part.hands.held s.roots c.args.from.0) in
+    subst (λ (o : Facts g.row.U.Denot). SetsRoot (sight_of o) (sight_of
+    (facts_of i.seat c.set.new.self)) c.args.to.0
+    (root_of (sight_of o) c.args.from)) c.self.view_is
+    (subst (λ (n : Option Name). SetsRoot (sight_of s) (sight_of (facts_of i.seat c.set.new.self))
+    c.args.to.0 n) name
+    (subst (λ (x : Gripped g.row.U.Denot). SetsRoot (sight_of s) (sight_of (facts_of i.seat x)) c.args.to.0
+    (place_name s.part.hands.held c.root-version.result)) (sym c.set.ensures) here))

@@ -1,0 +1,11 @@
+use Rattle.hm_core.specs.Stepping.{field_act}
+use Rattle.hm_cells.specs.Facts.{known_at}
+use Rattle.hm_cells.specs.Calls.{move_by}
+use Rattle.hm_cells.specs.Shows.{facts_of}
+use Rattle.hm_cells.proofs.steps.load_field.Given as goal
+
+abbrev pub ghosts-load : goal.ghosts-load
+ghosts-load g a = record {
+  picked = move_by (facts_of a.seat.now a._grip.now)
+      (field_act (known_at (facts_of a.seat.now a._grip.now) a.v) a.i);
+}

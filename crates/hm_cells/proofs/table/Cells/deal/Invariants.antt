@@ -1,0 +1,19 @@
+use Rattle.std.specs.Prelude.{◌≡◌, ◌-◌, ◌++◌, []}
+use Rattle.hm_core.specs.Moving.{view}
+use Rattle.hm_model.specs.History.{opening_of}
+use Rattle.hm_cells.specs.Grips.{site_of}
+use Rattle.hm_cells.specs.Shows.{knowledge}
+use Rattle.hm_cells.specs.Making.{fresh_passes, newcomers}
+use Rattle.hm_cells.proofs.table.Cells.deal.Given as goal
+
+abbrev pub invariant-loop-k : goal.invariant-loop-k
+invariant-loop-k g l = record {
+  table : l.seat.table_id ≡ l.self.table;
+  me : l.seat.me ≡ (
+    knowledge (view (opening_of l.opening.start)
+        (newcomers (site_of l.opening) (l.opening.shape.callers - l.k))),
+    [],
+  );
+  dealt : fresh_passes l.self.table (site_of l.opening) (l.opening.shape.callers - l.k) ++ l.passes.items
+      ≡ fresh_passes l.self.table (site_of l.opening) l.opening.shape.callers;
+}

@@ -1,0 +1,46 @@
+use Rattle.std.proofs.Common.{◌≡◌, List, All, sym, subst}
+use Rattle.hm_model.specs.Sight.{IsFresh}
+use Rattle.hm_core.specs.declared.part.Site.{Site}
+use Rattle.hm_cells.specs.Facts.{Facts, Fits, IsAtRest, Made, sight_of}
+use Rattle.hm_cells.specs.Making.{fresh_passes}
+use Rattle.hm_cells.proofs.Dealt.{all_fit, all_fresh, all_rest}
+use Rattle.hm_cells.proofs.table.Cells.make.Goals as goal
+
+pub returns-clause-fits : goal.returns-clause-fits
+returns-clause-fits g c =
+    let cells = c.in_ok-cells.cells in
+    let site : Site g.row.U.Denot = record {
+      usage = c.args.usage;
+      shape = c.args.shape;
+      start =
+          c.args.start;
+    } in
+    let made : Made g.row.U.Denot = record { table = cells.table; site = site } in
+    let is : made ≡ cells =
+    λ i. record { table = cells.table; site = sym (c.in_ok-cells.ensures).site i } in
+    subst (λ (l : List (Facts g.row.U.Denot)). All (λ s. Fits s cells) l) (sym c.in_ok-passes.ensures)
+    (subst (λ (m : Made g.row.U.Denot). All (λ s. Fits s m) (fresh_passes cells.table site
+    c.args.shape.callers)) is
+    (all_fit site cells.table c.args.shape.callers))
+
+pub returns-clause-fresh : goal.returns-clause-fresh
+returns-clause-fresh g c =
+    let site : Site g.row.U.Denot = record {
+      usage = c.args.usage;
+      shape = c.args.shape;
+      start =
+          c.args.start;
+    } in
+    subst (λ (l : List (Facts g.row.U.Denot)). All (λ s. IsFresh (sight_of s)) l) (sym c.in_ok-passes.ensures)
+    (all_fresh site c.in_ok-cells.cells.table c.args.shape.callers)
+
+pub returns-clause-rest : goal.returns-clause-rest
+returns-clause-rest g c =
+    let site : Site g.row.U.Denot = record {
+      usage = c.args.usage;
+      shape = c.args.shape;
+      start =
+          c.args.start;
+    } in
+    subst (λ (l : List (Facts g.row.U.Denot)). All IsAtRest l) (sym c.in_ok-passes.ensures)
+    (all_rest site c.in_ok-cells.cells.table c.args.shape.callers)

@@ -1,0 +1,21 @@
+-- What contracts see of a grip.
+use Rattle.std.specs.Prelude.{List, Option}
+use Rattle.hm_shape.specs.declared.version.Version.{Version}
+use Rattle.hm_core.specs.declared.part.Site.{Site}
+use Rattle.hm_cells.specs.declared.knowledge.Holding.{Holding}
+use Rattle.hm_cells.specs.declared.knowledge.Opening.{Opening}
+
+-- what all seats agree on, and the versions at each root place and in hand
+pub record Gripped (U : Type 0) : Type 0 where
+  pub site : Site U
+  pub roots : List (Option Version)
+  pub hand : List Version
+
+module _ {U : Type 0} where
+  -- a table is told what all its seats agree on
+  abbrev pub site_of : Opening U → Site U
+  site_of o = record { usage = o.usage; shape = o.shape; start = o.start }
+
+  -- the hand has other versions
+  abbrev pub handing : Holding U → List Version → Holding U
+  handing h hand = record { site = h.site; hand = hand }

@@ -1,0 +1,5 @@
+pub mod Grips
+pub mod Facts
+pub mod Calls
+pub mod Shows
+pub mod Making

@@ -1,0 +1,158 @@
+//! The steps of the machine that move one word: one call a step.
+ghost use Rattle.std.specs.Prelude.{◌≡◌, ◌<◌, ◌≤◌, ◌^◌, ◌⊎◌, true, None, IfOk};
+ghost use Rattle.hm_shape.specs.declared.version.TheConstants.{FIRST_NUMBER, FIRST_REFERENCE, VERSION_WORDS};
+ghost use Rattle.hm_shape.specs.Words.{naming_word};
+ghost use Rattle.hm_core.specs.declared.moving.Act.TheVariants as act;
+ghost use Rattle.hm_core.specs.Chain.{IsFit};
+ghost use Rattle.hm_core.specs.Moving.{is_naming, next_version, HasHand, HasRoom, Names};
+ghost use Rattle.hm_core.specs.Stepping.{field_act};
+ghost use Rattle.hm_model.specs.Sight.{MayEnter};
+ghost use Rattle.hm_cells.specs.Facts.{Fits, IsLookable, IsSound, known_at, sight_of};
+ghost use Rattle.hm_cells.specs.Calls.{IsWhole, IsWholeCopy, MayPublish, MayStore, MayWant, Takes, drafted, linked, link_found, stored, turned, version_in, wanted};
+
+use crate::pass::Pass;
+use crate::table::Cells;
+use crate::want::Want;
+use hm_model::Usage;
+use hm_shape::{FIRST_NUMBER, FIRST_REFERENCE, LINK, Version};
+use std::marker::Brand;
+
+/// A load of word `i` of a version, from 1 to 15. The version that a reference names is then held, and in
+/// hand.
+/// `scan` tells a load of a scan, and has no effect until there is a collector.
+pub fn load_field<U: Usage>(
+    cells: &Cells<U>,
+    pass: &mut Pass<U>,
+    v: Version,
+    i: u32,
+    _scan: bool,
+) -> u64
+    requires cells { Fits pass.old cells.now }
+    requires look { IsLookable pass.old v }
+    requires word { (0 < i) × (i < VERSION_WORDS) }
+    requires hand { HasHand pass.old.part }
+    ensures took { Takes U.lawful U.allowed pass.old (field_act (known_at pass.old v) i) result
+        pass.new }
+    ensures fit { IsFit pass.old.part.site.shape (known_at pass.old v) }
+    ensures sound { IsSound U.lawful U.allowed pass.new }
+{
+    let word = cells.load::<Brand>(&mut pass.seat, &pass.grip, v, i, &Want::Nothing);
+    pass.grip.take(named_by(i, word));
+    word
+}
+
+// The version that word `i` of a version names, where that is a reference.
+fn named_by(i: u32, word: u64) -> Option<Version>
+    ensures named { FIRST_REFERENCE ≤ i → i < FIRST_NUMBER → word ≤ 2 ^ 32
+        → result ≡ version_in word }
+    ensures none { (i < FIRST_REFERENCE) ⊎ (FIRST_NUMBER ≤ i) → result ≡ None }
+{
+    if (FIRST_REFERENCE..FIRST_NUMBER).contains(&i) {
+        Version::named(word)
+    } else {
+        None
+    }
+}
+
+/// A load of the link of a version. Answers the next version of its object, which is then held, and in hand.
+/// Where there is none, the wanted entry is made: a Fetch of what the version holds, or a StoreIf that
+/// answers Changed.
+///
+/// `scan` tells a load of a scan, and has no effect until there is a collector.
+pub fn load_link<U: Usage>(
+    cells: &Cells<U>,
+    pass: &mut Pass<U>,
+    v: Version,
+    want: Want,
+    _scan: bool,
+) -> Option<Version>
+    requires cells { Fits pass.old cells.now }
+    requires look { IsLookable pass.old v }
+    requires want { MayWant pass.old (known_at pass.old v) want }
+    requires hand { HasHand pass.old.part }
+    ensures took { Takes U.lawful U.allowed pass.old
+        (act.LoadLink (known_at pass.old v) (wanted pass.old (known_at pass.old v) want))
+        (naming_word result) pass.new }
+    ensures fit { IsFit pass.old.part.site.shape (known_at pass.old v) }
+    ensures sound { IsSound U.lawful U.allowed pass.new }
+{
+    let word = cells.load::<Brand>(&mut pass.seat, &pass.grip, v, LINK, &want);
+    let next = Version::named(word);
+    pass.grip.take(next);
+    next
+}
+
+/// A store of word `i` of the caller's next version, from 0 to 15. A link or reference has to name a held
+/// version, or none.
+pub fn store_own<U: Usage>(cells: &Cells<U>, pass: &mut Pass<U>, i: u32, word: u64)
+    requires cells { Fits pass.old cells.now }
+    requires room { HasRoom pass.old.part }
+    requires word { i < VERSION_WORDS }
+    requires named { is_naming i ≡ true → Names pass.old.part.hands.held word }
+    ensures took { Takes U.lawful U.allowed pass.old (act.StoreOwn i word) word pass.new }
+    ensures sound { IsSound U.lawful U.allowed pass.new }
+{
+    let next = Version::at(pass.shape, pass.number, 0, pass.used);
+    cells.store::<Brand>(&mut pass.seat, &pass.grip, next, i, word);
+}
+
+/// A store of 0 in the link of the caller's next version, which is published as the first of a new object,
+/// with what its words 1 to 15 say. It is then held, and in hand.
+pub fn publish<U: Usage>(cells: &Cells<U>, pass: &mut Pass<U>) -> Version
+    requires cells { Fits pass.old cells.now }
+    requires room { HasRoom pass.old.part }
+    requires hand { HasHand pass.old.part }
+    requires whole { IsWhole pass.old.part }
+    requires allowed { MayPublish U.lawful U.allowed pass.old }
+    ensures took { Takes U.lawful U.allowed pass.old (act.Publish (drafted pass.old.part)) 0
+        pass.new }
+    ensures version { result ≡ next_version pass.old.part }
+    ensures sound { IsSound U.lawful U.allowed pass.new }
+{
+    let next = Version::at(pass.shape, pass.number, 0, pass.used);
+    cells.store::<Brand>(&mut pass.seat, &pass.grip, next, LINK, 0);
+    pass.used += 1;
+    pass.grip.take(Some(next));
+    next
+}
+
+/// An exchange of the link of a version, from 0 to the caller's next version, which is written as a changed
+/// copy of it. Where 0 is found, the wanted entry is made, a Store or a StoreIf that answers Stored, and the
+/// next version is published and answered by `Ok`. Else `Err` has the next version of the object. Either is
+/// then held, and in hand.
+pub fn link_store<U: Usage>(
+    cells: &Cells<U>,
+    pass: &mut Pass<U>,
+    v: Version,
+    want: Want,
+) -> Result<Version, Version>
+    requires cells { Fits pass.old cells.now }
+    requires look { IsLookable pass.old v }
+    requires want { MayStore pass.old (known_at pass.old v) want }
+    requires room { HasRoom pass.old.part }
+    requires hand { HasHand pass.old.part }
+    requires whole { IsWholeCopy pass.old.part (turned pass.old (known_at pass.old v) want) }
+    requires allowed { MayEnter U.lawful U.allowed (sight_of pass.old)
+        (stored pass.old (known_at pass.old v) want) }
+    ensures took { Takes U.lawful U.allowed pass.old
+        (act.LinkStore (known_at pass.old v) (linked pass.old (known_at pass.old v) want)
+        (stored pass.old (known_at pass.old v) want))
+        (link_found result) pass.new }
+    ensures version { IfOk result (λ next. next ≡ next_version pass.old.part) }
+    ensures fit { IsFit pass.old.part.site.shape (known_at pass.old v) }
+    ensures sound { IsSound U.lawful U.allowed pass.new }
+{
+    let next = Version::at(pass.shape, pass.number, 0, pass.used);
+    let word = cells.exchange::<Brand>(&mut pass.seat, &pass.grip, v, next, &want);
+    match Version::named(word) {
+        None => {
+            pass.used += 1;
+            pass.grip.take(Some(next));
+            Ok(next)
+        }
+        Some(later) => {
+            pass.grip.take(Some(later));
+            Err(later)
+        }
+    }
+}

@@ -1,0 +1,286 @@
+//! The Table, its rule, and one step on it.
+ghost use Rattle.std.specs.Prelude.{◌≡◌, ◌<◌};
+ghost use Rattle.hm_shape.specs.declared.version.TheConstants.{LINK, VERSION_WORDS};
+
+use crate::grip::Grip;
+use crate::knowledge::{Knowledge, Opening};
+use crate::want::Want;
+use atomic_table::{Join, Play, Seat, Split, Table, TableRule};
+use hm_core::Move;
+use hm_model::Usage;
+use hm_shape::{LINK, Shape, Version};
+use std::alloc::{AllocError, Global};
+use std::marker::{Brand, Model, PhantomData};
+
+/// The rule: words and views show a good state of the machine.
+pub(crate) struct ByTheMachine;
+
+impl<U: Usage> TableRule<(), Knowledge<U>, Opening<U>> for ByTheMachine {
+    ghost use Rattle.hm_cells.specs.Grips.{site_of};
+    ghost use Rattle.hm_cells.specs.Shows.{Shows, knowledge};
+    ghost use Rattle.hm_cells.specs.Making.{first_view};
+
+    ghost holds = { λ o s. Shows U.lawful U.allowed (site_of o) s };
+
+    ghost first = { λ o. knowledge (first_view (site_of o)) };
+}
+
+/// The move that a call makes. Each call picks it.
+pub(crate) trait Moving {
+    ghost use Rattle.hm_core.specs.declared.moving.Move.{Move};
+
+    ghost picked: { Move };
+}
+
+impl Moving for Brand {
+    ghost use Rattle.hm_cells.specs.Shows.{some_move};
+
+    ghost picked = { some_move };
+}
+
+/// A step that is a move of the seat's caller.
+pub(crate) struct Moves<J>(PhantomData<J>);
+
+impl<J: Moving, U: Usage> Play<(), Knowledge<U>> for Moves<J> {
+    ghost use Rattle.std.specs.Prelude.{◌≡◌};
+    ghost use Rattle.hm_cells.specs.Shows.{Learns};
+
+    ghost then = { λ _ m x w. Learns U.lawful U.allowed J.picked m.0 x w.0 × (w.1 ≡ m.1) };
+}
+
+/// A step that moves no word: the seat's caller lets go of a version, and sees what it is sure of.
+pub(crate) struct Looking<J>(PhantomData<J>);
+
+impl<J: Moving, U: Usage> Play<(), Knowledge<U>> for Looking<J> {
+    ghost use Rattle.std.specs.Prelude.{◌≡◌};
+    ghost use Rattle.hm_cells.specs.Shows.{Looks};
+
+    ghost then = { λ _ m _ w. Looks U.lawful U.allowed J.picked.let_go m.0 w.0 × (w.1 ≡ m.1) };
+}
+
+/// The last caller of a seat gets a seat of its own.
+pub(crate) struct LastOut;
+
+impl<U> Split<Knowledge<U>> for LastOut {
+    ghost use Rattle.hm_core.specs.Moving.{view};
+    ghost use Rattle.hm_cells.specs.Shows.{knowledge};
+    ghost use Rattle.hm_cells.specs.Making.{front, back};
+
+    ghost left = { λ k. knowledge (view k.view.seen (front k.view.parts)) };
+
+    ghost right = { λ k. knowledge (view k.view.seen (back k.view.parts)) };
+}
+
+/// A note with a copy of what was seen gets a seat of its own.
+pub(crate) struct NoteOut;
+
+impl<U> Split<Knowledge<U>> for NoteOut {
+    ghost use Rattle.hm_cells.specs.Shows.{noted};
+
+    ghost left = { λ k. k };
+
+    ghost right = { noted };
+}
+
+/// A seat takes another in, and has then seen the longer of two histories.
+pub(crate) struct Meeting;
+
+impl<U> Join<Knowledge<U>> for Meeting {
+    ghost use Rattle.hm_cells.specs.Shows.{met, spent};
+
+    ghost both = { met };
+
+    ghost spent = { spent };
+}
+
+/// The words of a heap.
+///
+/// Contracts see of them which Table they are, and what all seats agree on.
+#[derive(Drop)]
+pub struct Cells<U: Usage> {
+    table: Table<(), Knowledge<U>, Opening<U>, ByTheMachine, Global>,
+    shape: Shape,
+}
+
+impl<U: Usage> Model for Cells<U> {
+    ghost use Rattle.hm_cells.specs.Facts.{Made};
+
+    ghost Value = { Made U };
+
+    ghost use Rattle.hm_cells.specs.Grips.{site_of};
+    ghost use Rattle.hm_cells.specs.Shows.{IsLaid};
+
+    ghost view = { λ c. record {
+      table = c.table.shared.table_id;
+      site = site_of c.table.shared.key;
+    } };
+
+    ghost invariant = { λ c.
+        IsLaid c.table.shared.table_id (site_of c.table.shared.key) c.shape };
+}
+
+impl<U: Usage> Cells<U> {
+    ghost use Rattle.std.specs.Prelude.{◌∷◌, [], ◌≤◌, IfOk, Some, length};
+    ghost use Rattle.hm_shape.specs.Versions.{IsVersionOf};
+    ghost use Rattle.hm_shape.specs.Words.{word_at, naming_word};
+    ghost use Rattle.hm_model.specs.History.{store_of, opening_of, starting_count};
+    ghost use Rattle.hm_core.specs.declared.part.Part.{Part};
+    ghost use Rattle.hm_core.specs.Moving.{view};
+    ghost use Rattle.hm_cells.specs.Grips.{site_of};
+    ghost use Rattle.hm_cells.specs.Shows.{IsReady, Loads, Stores, Exchanges, Learns, Looks, knowledge, noted, met};
+    ghost use Rattle.hm_cells.specs.Making.{AreFirst, first_view, front, back};
+
+    /// A fresh Table over these words. Its one seat carries all callers.
+    pub(crate) fn open(
+        alloc: Global,
+        words: &[u64],
+        opening: &Opening<U>,
+    ) -> Result<(Cells<U>, Seat<(), Knowledge<U>>), AllocError>
+        requires objects { starting_count opening.now.start ≤ opening.now.shape.versions }
+        requires lawful { U.lawful opening.now.usage (store_of (opening_of opening.now.start)) }
+        requires words { AreFirst opening.now.shape opening.now.start words.now }
+        ensures site { IfOk result (λ r. r.0.site ≡ site_of opening.now) }
+        ensures table { IfOk result (λ r. r.1.table_id ≡ r.0.table) }
+        ensures seat { IfOk result (λ r.
+            r.1.me ≡ (knowledge (first_view (site_of opening.now)), [])) }
+    {
+        let (table, seat) = Table::of_words(alloc, words, opening)?;
+        Ok((
+            Cells {
+                table,
+                shape: opening.shape,
+            },
+            seat,
+        ))
+    }
+
+    /// The shape that the cells were made with.
+    pub fn shape(&self) -> Shape
+        ensures { result ≡ self.now.site.shape }
+    {
+        self.shape
+    }
+
+    /// A load of word `i` of a version. Grip and want are for the pick alone.
+    pub(crate) fn load<J: Moving>(
+        &self,
+        seat: &mut Seat<(), Knowledge<U>>,
+        _grip: &Grip<U>,
+        v: Version,
+        i: u32,
+        _want: &Want,
+    ) -> u64
+        requires own { seat.old.table_id ≡ self.now.table }
+        requires version { IsVersionOf self.now.site.shape v }
+        requires word { i < VERSION_WORDS }
+        requires ready { IsReady U.lawful U.allowed seat.old.me.0 J.picked
+            (Loads J.picked (word_at self.now.site.shape v i)) }
+        ensures own { seat.new.table_id ≡ seat.old.table_id }
+        ensures slots { seat.new.me.1 ≡ seat.old.me.1 }
+        ensures told { Learns U.lawful U.allowed J.picked seat.old.me.0 result seat.new.me.0 }
+    {
+        let table = &self.table;
+        let word = v.word_of(self.shape, i) as usize;
+        table.shared.load::<Moves<J>>(seat, word)
+    }
+
+    /// A store of word `i` of a version. The grip is for the pick alone.
+    pub(crate) fn store<J: Moving>(
+        &self,
+        seat: &mut Seat<(), Knowledge<U>>,
+        _grip: &Grip<U>,
+        v: Version,
+        i: u32,
+        value: u64,
+    )
+        requires own { seat.old.table_id ≡ self.now.table }
+        requires version { IsVersionOf self.now.site.shape v }
+        requires word { i < VERSION_WORDS }
+        requires ready { IsReady U.lawful U.allowed seat.old.me.0 J.picked
+            (Stores U.lawful U.allowed J.picked (word_at self.now.site.shape v i) value) }
+        ensures own { seat.new.table_id ≡ seat.old.table_id }
+        ensures slots { seat.new.me.1 ≡ seat.old.me.1 }
+        ensures told { Learns U.lawful U.allowed J.picked seat.old.me.0 value seat.new.me.0 }
+    {
+        let table = &self.table;
+        let word = v.word_of(self.shape, i) as usize;
+        table.shared.store::<Moves<J>>(seat, word, value);
+    }
+
+    /// An exchange of the link of a version, from 0 to another version. Grip and want are for the pick alone.
+    pub(crate) fn exchange<J: Moving>(
+        &self,
+        seat: &mut Seat<(), Knowledge<U>>,
+        _grip: &Grip<U>,
+        v: Version,
+        next: Version,
+        _want: &Want,
+    ) -> u64
+        requires own { seat.old.table_id ≡ self.now.table }
+        requires version { IsVersionOf self.now.site.shape v }
+        requires ready { IsReady U.lawful U.allowed seat.old.me.0 J.picked
+            (Exchanges J.picked (word_at self.now.site.shape v LINK) (naming_word (Some next))) }
+        ensures own { seat.new.table_id ≡ seat.old.table_id }
+        ensures slots { seat.new.me.1 ≡ seat.old.me.1 }
+        ensures told { Learns U.lawful U.allowed J.picked seat.old.me.0 result seat.new.me.0 }
+    {
+        let table = &self.table;
+        let word = v.word_of(self.shape, LINK) as usize;
+        table
+            .shared
+            .compare_exchange::<Moves<J>>(seat, word, 0, next.name())
+    }
+
+    /// A load by which the seat's caller lets go of a version. The grip is for the pick alone.
+    pub(crate) fn look<J: Moving>(&self, seat: &mut Seat<(), Knowledge<U>>, _grip: &Grip<U>)
+        requires own { seat.old.table_id ≡ self.now.table }
+        requires alone { (p : Part U) × (seat.old.me.0.view.parts ≡ p ∷ []) }
+        ensures own { seat.new.table_id ≡ seat.old.table_id }
+        ensures slots { seat.new.me.1 ≡ seat.old.me.1 }
+        ensures told { Looks U.lawful U.allowed J.picked.let_go seat.old.me.0 seat.new.me.0 }
+    {
+        let table = &self.table;
+        table.shared.load::<Looking<J>>(seat, 0);
+    }
+
+    /// The last caller of a seat gets a seat of its own.
+    pub(crate) fn last_out(&self, seat: &mut Seat<(), Knowledge<U>>) -> Seat<(), Knowledge<U>>
+        requires { seat.old.table_id ≡ self.now.table }
+        ensures own { seat.new.table_id ≡ seat.old.table_id }
+        ensures kept { seat.new.me ≡ (
+          knowledge (view seat.old.me.0.view.seen
+              (front seat.old.me.0.view.parts)),
+          seat.old.me.1,
+        ) }
+        ensures table { result.table_id ≡ seat.old.table_id }
+        ensures new { result.me ≡ (
+          knowledge (view seat.old.me.0.view.seen
+              (back seat.old.me.0.view.parts)),
+          [],
+        ) }
+    {
+        self.table.shared.split_seat::<LastOut>(seat)
+    }
+
+    /// A note is split off a seat.
+    pub(crate) fn note_out(&self, seat: &mut Seat<(), Knowledge<U>>) -> Seat<(), Knowledge<U>>
+        requires { seat.old.table_id ≡ self.now.table }
+        ensures own { seat.new.table_id ≡ seat.old.table_id }
+        ensures kept { seat.new.me ≡ seat.old.me }
+        ensures table { result.table_id ≡ seat.old.table_id }
+        ensures new { result.me ≡ (noted seat.old.me.0, []) }
+    {
+        self.table.shared.split_seat::<NoteOut>(seat)
+    }
+
+    /// A seat takes another in.
+    pub(crate) fn meet(&self, seat: &mut Seat<(), Knowledge<U>>, other: Seat<(), Knowledge<U>>)
+        requires own { seat.old.table_id ≡ self.now.table }
+        requires other { other.table_id ≡ self.now.table }
+        requires none { other.me.1 ≡ [] }
+        ensures own { seat.new.table_id ≡ seat.old.table_id }
+        ensures met { seat.new.me ≡ (met seat.old.me.0 other.me.0, seat.old.me.1) }
+    {
+        self.table.shared.join_seat::<Meeting>(seat, other);
+    }
+}
