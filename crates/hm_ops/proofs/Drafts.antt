@@ -1,0 +1,150 @@
+-- A whole draft, from the words that were written.
+use Rattle.std.proofs.Common.{◌≡◌, ◌≢◌, ◌<◌, ◌≤◌, ◌+◌, ◌-◌, ℕ, zero, suc, List, [], ◌∷◌, length, get_or, map, slice_index, is_some, unwrap_or, Option, Some, None, IsSome, refl, sym, ap, ◌∙◌, subst, arith, inl, inr}
+use Rattle.std.proofs.Math.ListN.{get_or-map}
+use Rattle.std.proofs.lemmas.List.{length-map}
+use native.Mathlib.Decide.{dec_le, ℕ_discrete}
+use mathlib.Core.Logic.{dite}
+use Rattle.hm_shape.specs.declared.version.Version.{Version}
+use Rattle.hm_shape.specs.Words.{naming_word}
+use Rattle.hm_model.specs.declared.root.Root.{Root}
+use Rattle.hm_model.specs.Sight.{Sight, Places, name_at, name_of, names_of}
+use Rattle.hm_core.specs.Moving.{IsWritten}
+use Rattle.hm_core.specs.Stepping.{AreWrittenFrom}
+use Rattle.hm_cells.specs.Facts.{Facts, place_name, sight_of}
+use Rattle.hm_cells.specs.Calls.{drafted_name, drafted_numbers, drafted_refs, drafted_word, version_in}
+use Rattle.hm_cells.proofs.Fields.{naming_in}
+use Rattle.hm_cells.proofs.Rooted.{name_place}
+use Rattle.hm_ops.specs.Writing.{Roots, Drafts, Lasts, Writes, reference_word, version_of}
+use Rattle.hm_ops.proofs.Readings.{same_list}
+
+-- a reference to what a root place names lasts
+pub word_lasts : (roots : Roots) (j : ℕ) (r : Option Root) → Lasts roots j (reference_word roots r)
+word_lasts roots j None = inr (inl refl)
+word_lasts roots j (Some r) = go (get_or roots r.0 None) refl
+  where
+    go : (o : Option Version) → get_or roots r.0 None ≡ o → Lasts roots j (naming_word o)
+    go None at = inr (inl refl)
+    go (Some v) at = inr (inr (v, refl, (r.0, at)))
+
+-- and so do those of several
+pub words_last : (roots now : Roots) (first : ℕ) (refs : Places) (words : List ℕ) → now ≡ roots
+    → words ≡ map (reference_word roots) refs → (i : ℕ) → Lasts now (first + i) (slice_index words i)
+words_last roots now first refs words same are i =
+    subst (λ (l : Roots). Lasts l (first + i) (slice_index words i)) (sym same)
+    (subst (Lasts roots (first + i)) (sym (word_at_place roots refs words i are))
+    (word_lasts roots (first + i) (get_or refs i None)))
+  where
+    word_at_place : (roots : Roots) (refs : Places) (words : List ℕ) (i : ℕ) → words ≡ map
+        (reference_word roots) refs
+        → slice_index words i ≡ reference_word roots (get_or refs i None)
+    word_at_place roots refs words i are = ap (λ (l : List ℕ). get_or l i 0) are ∙ get_or-map
+        (reference_word roots) refs i None
+
+-- the version that a word names
+word_back : (o : Option Version) → version_in (naming_word o) ≡ o
+word_back None = refl
+word_back (Some v) = naming_in v
+
+-- four in a row, and ten
+four_in_row : {A : Type 0} (f : ℕ → A) (d : A) (i : ℕ) → i < 4 → get_or (map f (0 ∷ 1 ∷ 2 ∷ 3 ∷ [])) i d ≡ f i
+four_in_row f d zero low = refl
+four_in_row f d (suc zero) low = refl
+four_in_row f d (suc (suc zero)) low = refl
+four_in_row f d (suc (suc (suc zero))) low = refl
+four_in_row f d (suc (suc (suc (suc i)))) low = absurd (omega arith)
+
+ten_in_row : (f : ℕ → ℕ) (i : ℕ) → i < 10
+    → get_or (map f (0 ∷ 1 ∷ 2 ∷ 3 ∷ 4 ∷ 5 ∷ 6 ∷ 7 ∷ 8 ∷ 9 ∷ [])) i 0 ≡ f i
+ten_in_row f zero low = refl
+ten_in_row f (suc zero) low = refl
+ten_in_row f (suc (suc zero)) low = refl
+ten_in_row f (suc (suc (suc zero))) low = refl
+ten_in_row f (suc (suc (suc (suc i)))) low = six i (omega arith)
+  where
+    six : (i : ℕ) → i < 6 → get_or (map f (4 ∷ 5 ∷ 6 ∷ 7 ∷ 8 ∷ 9 ∷ [])) i 0 ≡ f (suc (suc (suc (suc i))))
+    six zero low = refl
+    six (suc zero) low = refl
+    six (suc (suc zero)) low = refl
+    six (suc (suc (suc zero))) low = refl
+    six (suc (suc (suc (suc zero)))) low = refl
+    six (suc (suc (suc (suc (suc zero))))) low = refl
+    six (suc (suc (suc (suc (suc (suc i)))))) low = absurd (omega arith)
+
+module _ {U : Type 0} where
+  -- what a place names, by its version
+  place_named : (s t : Facts U) (r : Option Root) → sight_of t ≡ sight_of s → t.roots ≡ s.roots
+      → place_name t.part.hands.held (version_of s.roots r) ≡ name_of (sight_of s) r
+  place_named s t None same roots = refl
+  place_named s t (Some r) same roots =
+      ap (λ (l : Roots). place_name t.part.hands.held (get_or l r.0 None)) (sym roots)
+      ∙ (sym (name_place t.part.hands.held t.roots r.0) ∙ ap (λ (c : Sight U). name_at c.roots r.0) same)
+
+  module _ (s t1 t2 t3 : Facts U) (refs : Places) (numbers words : List ℕ) (four : length refs ≡ 4)
+      (ten : length numbers ≡ 10)
+      (are : words ≡ map (reference_word s.roots) refs) (stamp : Writes s 1 (0 ∷ []) 1 t1)
+      (given : Writes t1 2 words (length words) t2) (last : Writes t2 6 numbers (length numbers) t3) where
+    wide : length words ≡ 4
+    wide = ap length are ∙ (length-map refs (reference_word s.roots) ∙ four)
+
+    roots1 : t1.roots ≡ s.roots
+    roots1 = stamp.roots
+
+    roots2 : t2.roots ≡ s.roots
+    roots2 = given.roots ∙ stamp.roots
+
+    same_all : sight_of t3 ≡ sight_of s
+    same_all = last.same ∙ (given.same ∙ stamp.same)
+
+    stamp_there : IsWritten t3.part.draft.written 1 0
+    stamp_there = last.below 1 0 (omega arith) (inl refl) (given.below 1 0 (omega arith) (inl refl)
+        (stamp.here 0 (omega arith)))
+
+    reference_there : (i : ℕ) → i < 4 → IsWritten t3.part.draft.written (2 + i) (slice_index words i)
+    reference_there i low =
+        last.below (2 + i) (slice_index words i) (omega arith)
+        (words_last s.roots t2.roots 2 refs words roots2 are i)
+        (given.here i (let w = wide in omega arith))
+
+    number_there : (i : ℕ) → i < 10 → IsWritten t3.part.draft.written (6 + i) (slice_index numbers i)
+    number_there i low = last.here i (omega arith)
+
+    drafted_is : (j w : ℕ) → IsWritten t3.part.draft.written j w → drafted_word t3.part j ≡ w
+    drafted_is j w is = ap (λ (o : Option ℕ). unwrap_or o 0) is
+
+    there : AreWrittenFrom t3.part 1
+    there j low high = dite (ℕ_discrete j 1)
+        (λ (e : j ≡ 1). some j 0 (subst (λ (k : ℕ). IsWritten t3.part.draft.written k 0) (sym e) stamp_there))
+        (λ (ne : j ≢ 1). dite (dec_le j 5)
+        (λ (a : j ≤ 5). some j (slice_index words (j - 2)) (at j (2 + (j - 2)) (slice_index words (j - 2))
+        (omega arith) (reference_there (j - 2) (omega arith))))
+        (λ a. some j (slice_index numbers (j - 6)) (at j (6 + (j - 6)) (slice_index numbers (j - 6))
+        (omega arith) (number_there (j - 6) (omega arith)))))
+      where
+        some : (j w : ℕ) → IsWritten t3.part.draft.written j w → IsSome (get_or t3.part.draft.written j None)
+        some j w is = ap is_some is
+
+        at : (j k w : ℕ) → j ≡ k → IsWritten t3.part.draft.written k w → IsWritten t3.part.draft.written j w
+        at j k w e is = subst (λ (i : ℕ). IsWritten t3.part.draft.written i w) (sym e) is
+
+    reference_is : (i : ℕ) → i < 4 → drafted_name t3.part i ≡ name_of (sight_of s) (get_or refs i None)
+    reference_is i low =
+        let r = get_or refs i None in
+        let word : slice_index words i ≡ reference_word s.roots r =
+        ap (λ (l : List ℕ). get_or l i 0) are ∙ get_or-map (reference_word s.roots) refs i None in
+        ap (λ (w : ℕ). place_name t3.part.hands.held (version_in w))
+        (drafted_is (2 + i) (slice_index words i) (reference_there i low) ∙ word)
+        ∙ (ap (place_name t3.part.hands.held) (word_back (version_of s.roots r))
+        ∙ place_named s t3 r same_all (last.roots ∙ roots2))
+
+    pub drafts_all : Drafts s refs numbers t3
+    drafts_all = record {
+      same = same_all;
+      whole = record { written = there; stamp = drafted_is 1 0 stamp_there };
+      refs_are = same_list (drafted_refs t3.part) (names_of (sight_of s) refs) 4 None refl
+          (length-map refs (name_of (sight_of s)) ∙ four)
+          (λ i low. four_in_row (drafted_name t3.part) None i low
+          ∙ (reference_is i low ∙ sym (get_or-map (name_of (sight_of s)) refs i None)));
+      numbers_are = same_list (drafted_numbers t3.part) numbers 10 0 refl ten
+          (λ i low. ten_in_row (λ j. drafted_word t3.part (6 + j)) i low
+          ∙ drafted_is (6 + i) (slice_index numbers i) (number_there i low));
+    }

@@ -1,0 +1,11 @@
+pub mod Between
+pub mod Creates
+pub mod Drafts
+pub mod Hands
+pub mod Quiet
+pub mod Readings
+pub mod Settled
+pub mod Walks
+pub mod Writings
+pub mod Stores
+pub mod Replaces

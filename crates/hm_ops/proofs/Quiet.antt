@@ -1,0 +1,99 @@
+-- What a move leaves of a pass that others see.
+use Rattle.std.proofs.Common.{◌≡◌, ◌≤◌, ◌+◌, ◌-◌, ℕ, List, [], ◌∷◌, ◌++◌, length, map, append-nil, Option, Some, None, refl, sym, ap, ◌∙◌, arith}
+use Rattle.hm_shape.specs.declared.version.Version.{Version}
+use Rattle.hm_model.specs.declared.entry.Entry.{Entry}
+use Rattle.hm_model.specs.Store.{PlainStore}
+use Rattle.hm_model.specs.Sight.{IsUntended}
+use Rattle.hm_core.specs.declared.part.Known.{Known}
+use Rattle.hm_core.specs.declared.moving.Act.{Act}
+use Rattle.hm_core.specs.Moving.{count_of, entry_of, listed, publishes, seen_after}
+use Rattle.hm_cells.specs.Facts.{Facts, Made, Fits, IsSound, room_of, sight_of}
+use Rattle.hm_cells.specs.Calls.{Takes}
+use Rattle.hm_cells.proofs.Stepped.{held_few}
+use Rattle.hm_ops.specs.Resting.{Keeps}
+
+version_in : Known → Version
+version_in k = k.version
+
+module _ {U : Type 0} where
+  -- no call but that of tending changes what it counts
+  pub untended : (s t : Facts U) → IsUntended (sight_of s) (sight_of t)
+  untended s t = record { copying = refl; moves = refl; tends = refl }
+
+module _ {U : Type 0} (lawful : U → PlainStore → Type 0) (allowed : U → PlainStore → Entry → Type 0) where
+  module _ (s t : Facts U) (act : Act) (x : ℕ) (took : Takes lawful allowed s act x t) where
+    pub site_kept : t.part.site ≡ s.part.site
+    site_kept = ap (λ (f : Facts U). f.part.site) took.is
+
+    pub number_kept : t.part.number ≡ s.part.number
+    number_kept = ap (λ (f : Facts U). f.part.number) took.is
+
+    pub roots_kept : t.roots ≡ s.roots
+    roots_kept = ap (λ (f : Facts U). f.roots) took.is
+
+    -- it is still a pass of the cells
+    pub fits_kept : (m : Made U) → Fits s m → Fits t m
+    fits_kept m f = record {
+      cells = ap (λ (f : Facts U). f.cells) took.is ∙ f.cells;
+      site = site_kept ∙ f.site;
+    }
+
+    -- few are held still
+    pub few_kept : (m : Made U) → Keeps lawful allowed s m → IsSound lawful allowed t → length
+        t.part.hands.held ≤ 400
+    few_kept m k after =
+        let none : length s.hand ≡ 0 = ap (λ (l : List Version). length l) k.resting.empty in
+        held_few lawful allowed s t act x k.sound after took 400 k.resting.few (omega arith)
+
+    -- what is in hand
+    pub hand_taken : (found new : Option Known) → s.hand ≡ [] → took.found ≡ found → publishes act x ≡ new
+        → t.hand ≡ map (λ k. k.version) (listed found ++ listed new)
+    hand_taken found new empty is is' =
+        ap (λ (f : Facts U). f.hand) took.is
+        ∙ (λ i. empty i ++ map (λ k. k.version) (listed (is i) ++ listed (is' i)))
+
+    -- a move that takes nothing into the hand keeps the pass at rest
+    pub keeps_none : (m : Made U) → Keeps lawful allowed s m → IsSound lawful allowed t → took.found ≡ None
+        → publishes act x ≡ None → Keeps lawful allowed t m
+    keeps_none m k after none nothing = record {
+      resting = record {
+        fits = fits_kept m k.resting.fits;
+        empty = hand_taken None None k.resting.empty none nothing;
+        few = few_kept m k after;
+      };
+      sound = after;
+    }
+
+    -- one that publishes nothing leaves the room
+    pub used_kept : publishes act x ≡ None → t.part.draft.used ≡ s.part.draft.used
+    used_kept nothing =
+        let same : t.part.draft.used ≡ s.part.draft.used + count_of (publishes act x) =
+        ap (λ (f : Facts U). f.part.draft.used) took.is in
+        let zero : count_of (publishes act x) ≡ 0 = ap count_of nothing in
+        omega arith
+
+    pub room_kept : publishes act x ≡ None → room_of t.part ≡ room_of s.part
+    room_kept nothing = λ i. (site_kept i).shape.versions - used_kept nothing i
+
+    -- and one that makes no entry either is not seen
+    pub same_sight : entry_of s.part.number act x ≡ None → publishes act x ≡ None → sight_of t ≡ sight_of s
+    same_sight no_entry nothing =
+        let seen : t.seen ≡ s.seen = ap (λ (f : Facts U). f.seen) took.is
+        ∙ ap (seen_after s.seen (s.seen ++ took.between)) no_entry in
+        let mine : t.part.mine ≡ s.part.mine = ap (λ (f : Facts U). f.part.mine) took.is
+        ∙ (ap (λ (e : Option Entry). s.part.mine ++ listed e) no_entry ∙ append-nil s.part.mine) in
+        λ i. record {
+          usage = (site_kept i).usage;
+          start = (site_kept i).start;
+          number = number_kept i;
+          seen = seen i;
+          mine = mine i;
+          roots = took.names i;
+          room = room_kept nothing i;
+          copying = Rattle.std.proofs.Common.false;
+          used = used_kept nothing i;
+          free = 0;
+          moves = 0;
+          tends = 0;
+          to_go = 0;
+        }

@@ -1,0 +1,88 @@
+-- Conditional stores, from their steps.
+use Rattle.std.proofs.Common.{◌≡◌, ◌+◌, ℕ, get_or, Some, None, sym, ap, ◌∙◌, subst, arith}
+use Rattle.hm_shape.specs.declared.version.Version.{Version}
+use Rattle.hm_model.specs.declared.entry.Tried.TheVariants.{Stored, Changed}
+use Rattle.hm_model.specs.declared.entry.Entry.{Entry}
+use Rattle.hm_model.specs.declared.entry.Entry.TheVariants.{StoreIf}
+use Rattle.hm_model.specs.declared.root.Root.{Root}
+use Rattle.hm_model.specs.Store.{Numbers, PlainStore}
+use Rattle.hm_model.specs.Sight.{Sight, Places, Continues, MayEnter, names_of, root_of}
+use Rattle.hm_model.specs.Effect.{with_all}
+use Rattle.hm_model.specs.Calls.{FindsChanged, MayStoreIf, StoresAll}
+use Rattle.hm_model.proofs.CallFacts.{finds_changed_enters, stores_all_enters}
+use Rattle.hm_model.proofs.SightFacts.{continues_enters}
+use Rattle.hm_core.specs.declared.part.Known.{Known}
+use Rattle.hm_cells.specs.Facts.{Facts, Made, known_at, room_of, sight_of}
+use Rattle.hm_cells.specs.Calls.{IsWholeCopy}
+use Rattle.hm_ops.specs.Resting.{IsAtPlace, IsRooted, Keeps}
+use Rattle.hm_ops.specs.Walking.{Reads, contents_at}
+use Rattle.hm_ops.specs.Writing.{Roots}
+use Rattle.hm_ops.specs.Storing.{Copies, Ends, tried_at}
+use Rattle.hm_ops.proofs.Quiet.{untended}
+use Rattle.hm_ops.proofs.Settled.{root_named}
+use Rattle.hm_ops.proofs.Walks.{placed_held}
+
+module _ {U : Type 0} (lawful : U → PlainStore → Type 0) (allowed : U → PlainStore → Entry → Type 0)
+    (m : Made U) where
+  -- a version was read and its copy written
+  module _ (s p t : Facts U) (v : Version) (stamp : ℕ) (refs : Places) (numbers : Numbers)
+      (reads : Reads lawful allowed m s v p)
+      (copies : Copies p record { stamp = stamp + 1; refs = names_of (sight_of p) refs; numbers = numbers } t)
+      (rooted : IsRooted s v) where
+    known_still : known_at t v ≡ known_at s v
+    known_still =
+        copies.known v (rooted.0, ap (λ (l : Roots). get_or l rooted.0 None) reads.roots ∙ rooted.1)
+        ∙ reads.known
+
+    pub copy_whole : stamp ≡ (contents_at s v).stamp
+        → IsWholeCopy t.part (with_all (names_of (sight_of t) refs) numbers (known_at t v).contents)
+    copy_whole equal =
+        let e : stamp ≡ (known_at t v).contents.stamp =
+        equal ∙ ap (λ (k : Known). k.contents.stamp) (sym known_still) in
+        let same : sight_of p ≡ sight_of t = sym copies.same in
+        subst (IsWholeCopy t.part)
+        (λ i. record { stamp = e i + 1; refs = names_of (same i) refs; numbers = numbers }) copies.whole
+
+    pub copy_may : MayEnter lawful allowed (sight_of s) (tried_at s v stamp refs numbers Stored)
+        → MayEnter lawful allowed (sight_of t) (tried_at t v stamp refs numbers Stored)
+    copy_may may =
+        let same : sight_of s ≡ sight_of t = sym (copies.same ∙ reads.same) in
+        subst (λ (k : Known). MayEnter lawful allowed (sight_of t)
+        (StoreIf t.part.number k.name stamp (names_of (sight_of t) refs) numbers Stored)) (sym known_still)
+        (subst (λ (c : Sight U). MayEnter lawful allowed c
+        (StoreIf c.number (known_at s v).name stamp (names_of c refs) numbers Stored)) same may)
+
+  -- a pass has walked to a version
+  module _ (s p : Facts U) (at : Root) (v : Version) (stamp : ℕ) (refs : Places) (numbers : Numbers)
+      (same : sight_of p ≡ sight_of s) (place : IsAtPlace p at.0 v) (k : Keeps lawful allowed p m) where
+    named : root_of (sight_of p) at ≡ Some (known_at p v).name
+    named = root_named p at.0 v place (placed_held lawful allowed m p at.0 v k place)
+
+    pub may_try : MayStoreIf lawful allowed (sight_of s) at stamp refs numbers
+        → MayEnter lawful allowed (sight_of p) (tried_at p v stamp refs numbers Stored)
+    may_try may =
+        subst (λ (c : Sight U). MayStoreIf lawful allowed c at stamp refs numbers) (sym same) may
+        (known_at p v).name named
+
+    module _ (t : Facts U) where
+      pub stores_all : Ends lawful allowed m p (tried_at p v stamp refs numbers Stored) 1 t
+          → StoresAll lawful allowed (sight_of s) (sight_of t) at stamp refs numbers
+      stores_all ends =
+          subst (λ (c : Sight U). StoresAll lawful allowed c (sight_of t) at stamp refs numbers) same
+          (stores_all_enters lawful allowed (sight_of p) (sight_of t) at stamp refs numbers
+          (known_at p v).name named ends.entry ends.names ends.room)
+
+      pub finds_changed : (found : ℕ)
+          → Ends lawful allowed m p (tried_at p v stamp refs numbers (Changed found)) 0 t
+          → FindsChanged lawful allowed (sight_of s) (sight_of t) at stamp refs numbers found
+      finds_changed found ends =
+          let room : room_of t.part ≡ room_of p.part = let r = ends.room in omega arith in
+          subst (λ (c : Sight U). FindsChanged lawful allowed c (sight_of t) at stamp refs numbers found) same
+          (finds_changed_enters lawful allowed (sight_of p) (sight_of t) at stamp refs numbers found
+          (known_at p v).name named ends.entry ends.names room)
+
+      pub ends_continues : (e : Entry) (taken : ℕ) → Ends lawful allowed m p e taken t
+          → Continues lawful allowed (sight_of s) (sight_of t)
+      ends_continues e taken ends =
+          subst (λ (c : Sight U). Continues lawful allowed c (sight_of t)) same
+          (continues_enters lawful allowed (sight_of p) (sight_of t) e ends.entry (untended p t))

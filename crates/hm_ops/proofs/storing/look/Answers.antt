@@ -1,0 +1,48 @@
+use Rattle.std.proofs.Common.{Option, IfSome, sym, subst, ap, Contains, List}
+use Rattle.hm_shape.specs.declared.version.Version.{Version}
+use Rattle.hm_cells.specs.Calls.{wanted}
+use Rattle.hm_cells.specs.Facts.{Facts, known_at}
+use Rattle.hm_ops.specs.Storing.{Steps}
+use Rattle.hm_ops.specs.Walking.{GoesOn}
+use Rattle.hm_ops.proofs.Walks.{next_held, next_taken, placed_look, walk_goes}
+use Rattle.hm_ops.proofs.Stores.{look_ends_all, whatever}
+use Rattle.hm_ops.proofs.storing.look.Goals as goal
+
+pub load_link-requires-clause-look : goal.load_link-requires-clause-look
+load_link-requires-clause-look g c =
+    placed_look g.U.Usage.lawful g.U.Usage.allowed c.args.cells.now c.args.pass.now c.args.at.0 c.args.v
+    c.requires.keeps c.requires.place
+
+pub returns-in_err-next : goal.returns-in_err-next
+returns-in_err-next g c =
+    let want = wanted c.args.pass.now (known_at c.args.pass.now c.args.v) c.args.want in
+    subst (λ (o : Option Version). IfSome want
+    (λ e. Steps g.U.Usage.lawful g.U.Usage.allowed c.args.cells.now
+    c.args.pass.now c.args.at c.args.v e 0 o c.load_link.new.pass))
+    (sym c.from_residual.ensures)
+    (look_ends_all g.U.Usage.lawful g.U.Usage.allowed c.args.cells.now c.args.pass.now c.load_link.new.pass
+    c.args.at c.args.v c.requires.keeps c.requires.place c.load_link.ensures.sound want
+    c.in_err-next.ensures.took)
+
+pub set_root-requires-clause-held : goal.set_root-requires-clause-held
+set_root-requires-clause-held g c =
+    next_held g.U.Usage.lawful g.U.Usage.allowed c.args.cells.now c.args.pass.now c.load_link.new.pass
+    c.args.at c.args.v c.requires.keeps c.requires.place c.load_link.ensures.sound _
+    c.in_ok-next.next c.in_ok-next.ensures.took
+
+pub release-requires : goal.release-requires
+release-requires g c =
+    subst (λ (l : List Version). Contains l c.in_ok-next.next)
+    (sym (ap (λ (f : Facts g.row.U.Denot). f.hand) c.set_root.ensures.pass))
+    (next_taken g.U.Usage.lawful g.U.Usage.allowed c.args.cells.now c.args.pass.now c.load_link.new.pass
+    c.args.at c.args.v c.requires.keeps c.requires.place c.load_link.ensures.sound _
+    c.in_ok-next.next c.in_ok-next.ensures.took)
+
+pub returns : goal.returns
+returns g c =
+    whatever (GoesOn g.U.Usage.lawful g.U.Usage.allowed c.args.cells.now c.args.pass.now c.args.at c.args.v c.in_ok-next.next c.release.new.self)
+    (wanted c.args.pass.now (known_at c.args.pass.now c.args.v) c.args.want)
+    (walk_goes g.U.Usage.lawful g.U.Usage.allowed c.args.cells.now c.args.pass.now c.load_link.new.pass
+    c.args.at c.args.v c.requires.keeps c.requires.place c.load_link.ensures.sound _
+    c.in_ok-next.next c.in_ok-next.ensures.took c.set_root.new.self c.release.new.self
+    c.set_root.ensures.pass c.release.ensures)

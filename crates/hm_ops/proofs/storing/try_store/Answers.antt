@@ -1,0 +1,18 @@
+use Rattle.std.proofs.Common.{◌≡◌, sym, ◌∙◌, rules}
+use Rattle.hm_ops.proofs.Replaces.{copy_may, copy_whole}
+use Rattle.hm_ops.proofs.storing.try_store.Goals as goal
+
+pub link-requires-clause-whole : goal.link-requires-clause-whole
+link-requires-clause-whole g c =
+    let r = c.read_stamp-found in
+    let same : r.result ≡ c.args.stamp = search rules in
+    copy_whole g.U.Usage.lawful g.U.Usage.allowed c.args.cells.now c.args.pass.now r.new.pass
+    c.rewrite.new.pass c.args.v c.args.stamp c.args.refs c.args.numbers r.ensures.reads
+    c.rewrite.ensures.copies (c.args.at.0, c.requires.place) (sym same ∙ r.ensures.value)
+
+pub link-requires-clause-allowed : goal.link-requires-clause-allowed
+link-requires-clause-allowed g c =
+    let r = c.read_stamp-found in
+    copy_may g.U.Usage.lawful g.U.Usage.allowed c.args.cells.now c.args.pass.now r.new.pass
+    c.rewrite.new.pass c.args.v c.args.stamp c.args.refs c.args.numbers r.ensures.reads
+    c.rewrite.ensures.copies (c.args.at.0, c.requires.place) c.requires.allowed

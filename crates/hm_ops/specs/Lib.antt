@@ -1,0 +1,4 @@
+pub mod Resting
+pub mod Walking
+pub mod Writing
+pub mod Storing

@@ -1,0 +1,58 @@
+-- Walks along links, and loads of what a version holds.
+use Rattle.std.specs.Prelude.{◌≡◌, ◌≢◌, ℕ, ◌-◌, ◌<◌, Option, Some, None, slice_index_or}
+use Rattle.hm_shape.specs.declared.version.Version.{Version}
+use Rattle.hm_shape.specs.Versions.{version_count}
+use Rattle.hm_model.specs.declared.object.Contents.{Contents}
+use Rattle.hm_model.specs.declared.entry.Entry.{Entry}
+use Rattle.hm_model.specs.declared.root.Root.{Root}
+use Rattle.hm_model.specs.Store.{PlainStore}
+use Rattle.hm_model.specs.Sight.{Rests, SetsRoot}
+use Rattle.hm_model.specs.Calls.{Fetches}
+use Rattle.hm_core.specs.Chain.{reference_at}
+use Rattle.hm_cells.specs.Facts.{Facts, Made, known_at, names_at, sight_of}
+use Rattle.hm_ops.specs.Resting.{IsAtPlace, Keeps}
+
+module _ {U : Type 0} where
+  -- what a version holds, as its pass knows it
+  abbrev pub contents_at : Facts U → Version → Contents
+  contents_at s v = (known_at s v).contents
+
+  -- ranks rise along links, and so many versions at most come behind one
+  abbrev pub ahead : Made U → Facts U → Version → ℕ
+  ahead m s v = version_count m.site.shape - (known_at s v).rank
+
+  module _ (lawful : U → PlainStore → Type 0) (allowed : U → PlainStore → Entry → Type 0) (m : Made U) where
+    -- a walk from a root place ends at a version: the place names it, and the object was fetched there
+    pub record Walks (s : Facts U) (r : Root) (v : Version) (t : Facts U) : Type 0 where
+      pub fetch : Fetches lawful allowed (sight_of s) (sight_of t) r (contents_at t v)
+      pub names : names_at t ≡ names_at s
+      pub place : IsAtPlace t r.0 v
+      pub keeps : Keeps lawful allowed t m
+
+    -- a walk goes on to the next version, which the place names instead
+    pub record GoesOn (s : Facts U) (r : Root) (v next : Version) (t : Facts U) : Type 0 where
+      pub same : sight_of t ≡ sight_of s
+      pub place : IsAtPlace t r.0 next
+      pub nearer : ahead m t next < ahead m s v
+      pub keeps : Keeps lawful allowed t m
+
+    -- one step of a walk goes on where a next version is found, and ends the walk where none is
+    abbrev pub Follows : Facts U → Root → Version → Option Version → Facts U → Type 0
+    Follows s r v None t = Walks s r v t
+    Follows s r v (Some next) t = GoesOn s r v next t
+
+    -- a load of a field shows nothing to others, and leaves what is known of the version
+    pub record Reads (s : Facts U) (v : Version) (t : Facts U) : Type 0 where
+      pub same : sight_of t ≡ sight_of s
+      pub roots : t.roots ≡ s.roots
+      pub known : known_at t v ≡ known_at s v
+      pub keeps : Keeps lawful allowed t m
+
+    -- a load of a reference into a root place, which then names what the reference names, or nothing
+    pub record ReadsInto (s : Facts U) (v : Version) (i into : ℕ) (t : Facts U) : Type 0 where
+      pub rests : Rests (sight_of s) (sight_of t)
+      pub names : SetsRoot (sight_of s) (sight_of t) into (reference_at (contents_at s v) i)
+      pub places : (r : ℕ) → r ≢ into
+          → slice_index_or t.roots r None ≡ slice_index_or s.roots r None
+      pub known : known_at t v ≡ known_at s v
+      pub keeps : Keeps lawful allowed t m

@@ -1,0 +1,152 @@
+//! Two passes on one thread: what one makes and the other sees of it, and how much room there is.
+ghost use Rattle.std.specs.Prelude.{◌≡◌, ◌<◌, IfOk};
+ghost use Rattle.hm_ops.specs.Resting.{IsResting};
+
+use crate::{create, fetch, fetch_number, fetch_ref, store_if};
+use hm_cells::{Cells, Memory, Pass, meet, split};
+use hm_model::{AnyUsage, Full, Root, Snapshot, Start, StoreIfRefused};
+use hm_shape::Shape;
+use std::alloc::Global;
+use std::process::Abort;
+use std::test::Fail;
+
+type Two = (Cells<AnyUsage>, Pass<AnyUsage>, Pass<AnyUsage>);
+
+// Cells of two callers with four versions a region. Of the common object's references the last is given.
+fn two(rt: &impl Abort, alloc: Global) -> Result<Two, Memory>
+    ensures { IfOk result (λ r. IsResting r.1 r.0 × IsResting r.2 r.0) }
+{
+    let shape = Shape::new(2, 4, 4).unwrap();
+    let start = Start {
+        numbers: [5; 10],
+        sides: [None, None, None, Some([8; 10])],
+    };
+    let (cells, mut passes) = Cells::make(alloc, shape, AnyUsage, start)?;
+    let b = passes.pop().expect(rt, "caller 1");
+    let a = passes.pop().expect(rt, "caller 0");
+    Ok((cells, a, b))
+}
+
+fn creates(cells: &Cells<AnyUsage>, pass: &mut Pass<AnyUsage>, into: u32) -> Result<(), Full>
+    requires rests { IsResting pass.old cells.now }
+    requires into { into < 256 }
+    ensures { IsResting pass.new cells.now }
+{
+    create(cells, pass, Root(into), [None; 4], [7; 10])
+}
+
+fn fetches(
+    rt: &impl Abort,
+    cells: &Cells<AnyUsage>,
+    pass: &mut Pass<AnyUsage>,
+    from: u32,
+) -> (Snapshot, u64, bool)
+    requires rests { IsResting pass.old cells.now }
+    requires from { from < 4 }
+    ensures { IsResting pass.new cells.now }
+{
+    assert!(rt; pass.is_set(Root(from)));
+    let whole = fetch(cells, pass, Root(from), Root(4));
+    assert!(rt; pass.is_set(Root(from)));
+    let number = fetch_number(cells, pass, Root(from), 9);
+    assert!(rt; pass.is_set(Root(from)));
+    let there = fetch_ref(cells, pass, Root(from), 3, Root(8));
+    (whole, number, there)
+}
+
+fn tells(cells: &Cells<AnyUsage>, from: &mut Pass<AnyUsage>, to: &mut Pass<AnyUsage>)
+    requires from { IsResting from.old cells.now }
+    requires to { IsResting to.old cells.now }
+    ensures from { IsResting from.new cells.now }
+    ensures to { IsResting to.new cells.now }
+{
+    let note = split(cells, from);
+    meet(cells, to, note);
+}
+
+// A conditional store of ten equal numbers, and no references, into the common object.
+fn replaces(
+    rt: &impl Abort,
+    cells: &Cells<AnyUsage>,
+    pass: &mut Pass<AnyUsage>,
+    stamp: u64,
+    value: u64,
+) -> Result<(), StoreIfRefused>
+    requires rests { IsResting pass.old cells.now }
+    ensures { IsResting pass.new cells.now }
+{
+    assert!(rt; pass.is_set(Root(0)));
+    store_if(cells, pass, Root(0), stamp, [None; 4], [value; 10])
+}
+
+fn counts(pass: &Pass<AnyUsage>) -> (u64, u32, u32) {
+    (pass.room(), pass.used(), pass.free())
+}
+
+#[test]
+fn what_one_makes_changes_no_place_of_the_other(rt: HostRuntime) -> Result<(), Fail> {
+    let (cells, mut a, mut b) = two(&rt, rt.alloc())?;
+    assert_eq!(rt; creates(&cells, &mut a, 1), Ok(()));
+    tells(&cells, &mut a, &mut b);
+    assert_eq!(rt; (a.is_set(Root(1)), b.is_set(Root(1))), (true, false));
+    assert_eq!(rt; (counts(&a), counts(&b)), ((1, 3, 0), (4, 0, 0)));
+    let made = Snapshot {
+        stamp: 0,
+        numbers: [7; 10],
+        set: [false; 4],
+    };
+    assert_eq!(rt; fetches(&rt, &cells, &mut a, 1), (made, 7, false));
+    assert!(rt; !a.is_set(Root(7)) && !a.is_set(Root(8)));
+    let common = Snapshot {
+        stamp: 0,
+        numbers: [5; 10],
+        set: [false, false, false, true],
+    };
+    assert_eq!(rt; fetches(&rt, &cells, &mut b, 0), (common, 5, true));
+    assert!(rt; b.is_set(Root(7)) && b.is_set(Root(8)) && !b.is_set(Root(4)));
+    Ok(())
+}
+
+#[test]
+fn a_region_of_four_versions_has_room_for_four(rt: HostRuntime) -> Result<(), Fail> {
+    let (cells, mut a, mut b) = two(&rt, rt.alloc())?;
+    for (left, used) in [(2, 2), (1, 3)] {
+        assert_eq!(rt; counts(&a), (left, used, 0));
+        assert_eq!(rt; creates(&cells, &mut a, 1), Ok(()));
+    }
+    for (left, used) in [(4, 0), (3, 1), (2, 2), (1, 3)] {
+        assert_eq!(rt; counts(&b), (left, used, 0));
+        assert_eq!(rt; creates(&cells, &mut b, 1), Ok(()));
+    }
+    assert_eq!(rt; (counts(&a), counts(&b)), ((0, 4, 0), (0, 4, 0)));
+    assert_eq!(rt; creates(&cells, &mut a, 2), Err(Full));
+    assert_eq!(rt; creates(&cells, &mut b, 2), Err(Full));
+    assert_eq!(rt; (counts(&a), counts(&b)), ((0, 4, 0), (0, 4, 0)));
+    assert_eq!(rt; (a.is_set(Root(2)), b.is_set(Root(2))), (false, false));
+    Ok(())
+}
+
+#[test]
+fn a_store_that_finds_another_stamp_answers_it(rt: HostRuntime) -> Result<(), Fail> {
+    let (cells, mut a, mut b) = two(&rt, rt.alloc())?;
+    let changed = Err(StoreIfRefused::Changed { stamp: 1 });
+    assert_eq!(rt; replaces(&rt, &cells, &mut b, 0, 6), Ok(()));
+    assert_eq!(rt; replaces(&rt, &cells, &mut a, 0, 7), changed);
+    assert_eq!(rt; replaces(&rt, &cells, &mut b, 1, 7), Ok(()));
+    assert_eq!(rt; replaces(&rt, &cells, &mut b, 2, 8), Ok(()));
+    assert_eq!(rt; (counts(&a), counts(&b)), ((2, 2, 0), (1, 3, 0)));
+    assert_eq!(rt; replaces(&rt, &cells, &mut a, 3, 9), Ok(()));
+    let last = Snapshot {
+        stamp: 4,
+        numbers: [9; 10],
+        set: [false; 4],
+    };
+    assert_eq!(rt; fetches(&rt, &cells, &mut b, 0), (last, 9, false));
+    assert_eq!(rt; (counts(&a), counts(&b)), ((1, 3, 0), (1, 3, 0)));
+    assert_eq!(rt; replaces(&rt, &cells, &mut b, 4, 1), Ok(()));
+    assert_eq!(rt;
+        replaces(&rt, &cells, &mut b, 0, 2),
+        Err(StoreIfRefused::Full)
+    );
+    Ok(())
+}
