@@ -1,0 +1,120 @@
+"""The built program: each status with its text, real devices, and the worked files."""
+import os
+import random
+import re
+import resource
+
+from common import PROGRAM, Case, content, path, worked
+
+ROW = b"L,1,B,10,5\n"
+LONGEST = 67108864
+PAIRS = b"L,1,B,10,5\nL,2,S,10,5\n" * 180000
+# What a file holds (bytes, or how many zero bytes), and how a replay of it ends.
+FILES = [
+    ("no byte", b"", 0, b""),
+    ("a row that is refused", ROW + b"L,2,B,0,5\n", 3, b"hm: text 1 2 price\n"),
+    ("bytes that are no text", b"\xff\x00\n", 3, b"hm: text 1 1 fields\n"),
+    ("lines that end in CR LF", b"L,1,B,10,5\r\n", 3, b"hm: text 1 1 quantity\n"),
+    ("a row too many", ROW * 1000001, 3, b"hm: text 1 1000001 toomany\n"),
+    ("more orders than the heap has room for", PAIRS, 6, b"hm: full 1\n"),
+    ("as many bytes as a file may have", LONGEST, 3, b"hm: text 1 1 fields\n"),
+    ("a byte more than a file may have", LONGEST + 1, 7, b"hm: long 1\n"),
+]
+WORDS = [[], ["replay"], ["frob", "f"], ["replay", ""], ["replay", "-"], ["replay", "--help"], ["--help"],
+         ["replay", "f", "f"], ["REPLAY", "f"], [b"replay", b"\xff"], [b"\xff", b"f"]]
+
+
+class Program(Case):
+    def setUp(self):
+        super().setUp()
+        self.assertTrue(os.access(PROGRAM, os.X_OK), PROGRAM + " is missing; rt ci leaves the program there")
+
+    def test_each_file_ends_with_its_status_and_text(self):
+        for what, data, status, err in FILES:
+            with self.subTest(what):
+                out = b"board 0\nend 0 0 0\n" if status == 0 else b""
+                self.says(self.hm("replay", self.made(data)), status, out, err)
+
+    def test_words_that_are_refused(self):
+        for words in WORDS:
+            with self.subTest(words):
+                self.says(self.hm(*words, cwd=self.folder), 2, err=b"hm: words\n")
+
+    def test_a_word_that_is_not_text_names_no_file(self):
+        name = os.path.join(os.fsencode(self.folder), b"\xff")
+        with open(name, "wb") as file:
+            file.write(ROW)
+        self.says(self.hm(b"replay", name), 2, err=b"hm: words\n")
+
+    def test_a_file_that_cannot_be_read(self):
+        for name in (os.path.join(self.folder, "missing"), self.folder, self.made(ROW) + "/file"):
+            with self.subTest(name):
+                self.says(self.hm("replay", name), 4, err=b"hm: read 1\n")
+
+    def test_want_of_memory(self):
+        def little():
+            resource.setrlimit(resource.RLIMIT_AS, (32 << 20, 32 << 20))
+        self.says(self.hm("replay", self.made(LONGEST), preexec_fn=little), 1, err=b"hm: memory\n")
+
+    def test_a_full_device(self):
+        with open("/dev/full", "wb") as full:
+            for rows in (1, 100000):
+                with self.subTest(rows):
+                    self.says(self.hm("replay", self.made(ROW * rows), stdout=full), 5, err=b"hm: write\n")
+
+    def test_a_closed_pipe(self):
+        for rows in (1, 100000):
+            reader, writer = os.pipe()
+            os.close(reader)
+            with self.subTest(rows):
+                self.says(self.hm("replay", self.made(ROW * rows), stdout=writer), 5, err=b"hm: write\n")
+            os.close(writer)
+
+    def test_a_full_device_for_errors_changes_no_status(self):
+        with open("/dev/full", "wb") as full:
+            self.assertEqual(self.hm("frob", stderr=full).returncode, 2)
+            self.assertEqual(self.hm("replay", self.made(b"x"), stderr=full).returncode, 3)
+
+    def test_the_worked_files(self):
+        for case in worked():
+            with self.subTest(case.name):
+                done = self.hm("replay", self.made(case.data))
+                if case.refusal:
+                    self.says(done, 3, err=case.refusal.encode() + b"\n")
+                else:
+                    self.says(done, 0, out=case.report)
+
+    def test_the_example_of_the_readme(self):
+        text = content("README.md").decode().split("## What the report means\n")[1].split("```")
+        rows = "".join(row + "\n" for row in re.findall("`(L,[^`]+)`", text[0]))
+        self.says(self.hm("replay", self.made(rows.encode())), 0, out=text[1][len("text\n"):].encode())
+
+    def test_the_demo_file_is_the_one_that_the_gate_replays(self):
+        self.assertEqual(content("demo", "first.csv"), content("crates", "hm_tool", "data", "first.csv"))
+        self.assertEqual(content("crates", "hm_tool", "args"), b"replay\nfirst.csv\n")
+        done = self.hm("replay", path("demo", "first.csv"))
+        self.says(done, 0, out=content("crates", "hm_tool", "stdout"))
+
+    def test_demo_run_prints_the_report_and_draws_it(self):
+        os.makedirs(os.path.join(self.folder, "demo"))
+        for name in ("demo/run", "demo/first.csv"):
+            self.made(content(*name.split("/")), name)
+        self.made(b'#!/bin/sh\nexec "%s" "$@"\n' % os.fsencode(path("crates/hm_tool/out/hm_tool")), "hm")
+        os.symlink(path("scripts"), os.path.join(self.folder, "scripts"))
+        for name in ("demo/run", "hm"):
+            os.chmod(os.path.join(self.folder, name), 0o755)
+        done = self.call(os.path.join(self.folder, "demo", "run"))
+        self.assertEqual((done.returncode, done.stdout), (0, content("crates", "hm_tool", "stdout")))
+        with open(os.path.join(self.folder, "demo", "out", "first.svg"), "rb") as picture:
+            self.assertIn(b"30 orders of 1 file, 24 fills", picture.read())
+
+    def test_the_plain_replay_agrees_on_random_files(self):
+        chance = random.Random(7)
+        for number in range(12):
+            rows = ["L,%d,%s,%d,%d\n" % (chance.randrange(40), chance.choice("BS"), chance.randrange(1, 12),
+                                         chance.randrange(1, 9)) for _ in range(25 * number)]
+            file = self.made("".join(rows).encode())
+            report = self.made(self.hm("replay", file).stdout, "report")
+            with self.subTest(number):
+                done = self.script("report_check", report, file)
+                self.assertEqual((done.returncode, done.stderr), (0, b""), done.stdout)

@@ -1,0 +1,85 @@
+"""The gate's counts, the paths that documents name, and the words of scripts."""
+import os
+import re
+
+from common import Case, content, path
+
+SCRIPTS = ("bench", "explain", "report_check", "report_csv", "report_svg", "test")
+DOCUMENTS = ["README.md", "HACKING.md"] + sorted("docs/" + name for name in os.listdir(path("docs")))
+# A path begins with a name at the top of the repository. NAME and STORY stand for any name.
+PATH = re.compile(r"(?<![\w./-])(?:(?:\.ci|crates|demo|docs|scripts)/[\w./-]*\w|HACKING\.md|README\.md)")
+MADE = ("/out/",)  # what the programs make
+# What rt and the scripts' tests print and end with, and then the gate's last line and status.
+GATES = [
+    ("3 passed, 0 failed", 0, "4 passed, 0 failed", 0, "7 passed, 0 failed", 0),
+    ("3 passed, 1 failed", 1, "4 passed, 0 failed", 0, "7 passed, 1 failed", 1),
+    ("3 passed, 0 failed", 0, "2 passed, 2 failed", 1, "5 passed, 2 failed", 1),
+    ("3 passed, 0 failed", 1, "4 passed, 0 failed", 0, "7 passed, 0 failed", 1),
+    ("3 passed, 0 failed", 0, "4 passed, 0 failed", 1, "7 passed, 0 failed", 1),
+    ("3 passed, 0 failed\nand then", 0, "4 passed, 0 failed", 0, "4 passed, 1 failed", 1),
+    ("3 passed, 0 failed (hm_book alone: not the gate)", 0, "4 passed, 0 failed", 0, "4 passed, 1 failed", 1),
+    ("", 0, "4 passed, 0 failed", 0, "4 passed, 1 failed", 1),
+    ("3 passed, 0 failed", 0, "", 0, "3 passed, 1 failed", 1),
+    ("dies", 0, "dies", 0, "0 passed, 2 failed", 1),
+    ("3 passed, 0 failed", 0, None, 0, "3 passed, 1 failed", 1),
+    ("010 passed, 008 failed", 1, "4 passed, 0 failed", 0, "14 passed, 8 failed", 1),
+]
+
+
+class Repository(Case):
+    def program(self, name, printed, status):
+        """A program that prints this and ends so, or dies at once."""
+        text = "printf '%s'; exit %d" % (printed and printed + "\n", status)
+        text = "kill -9 $$" if printed == "dies" else text
+        os.makedirs(os.path.dirname(os.path.join(self.folder, name)), exist_ok=True)
+        os.chmod(self.made(b"#!/bin/bash\n" + text.encode() + b"\n", name), 0o755)
+
+    def test_the_gate_adds_both_counts_and_ends_with_0_only_where_both_did(self):
+        for rt, rt_status, tests, tests_status, line, status in GATES:
+            with self.subTest(rt=rt, rt_status=rt_status, tests=tests, tests_status=tests_status):
+                self.program("bin/rt", rt, rt_status)
+                self.program(".ci/run", "", 0)
+                self.made(content(".ci", "run"), ".ci/run")
+                if os.path.exists(self.folder + "/scripts/test"):
+                    os.remove(self.folder + "/scripts/test")
+                if tests is not None:
+                    self.program("scripts/test", tests, tests_status)
+                places = dict(os.environ, PATH=self.folder + "/bin:" + os.environ["PATH"])
+                done = self.call(self.folder + "/.ci/run", env=places)
+                self.assertEqual((done.stdout.decode().splitlines()[-1], done.returncode), (line, status))
+
+    def test_each_path_that_a_document_names_exists(self):
+        for document in DOCUMENTS:
+            text = content(document).decode().replace("\\-", "-")
+            for name in sorted(set(PATH.findall(text))):
+                is_pattern = "NAME" in name or "STORY" in name or any(made in name for made in MADE)
+                with self.subTest(document=document, name=name):
+                    self.assertTrue(is_pattern or os.path.exists(path(name)))
+
+    def test_each_edit_that_the_readme_names_exists(self):
+        edits = re.findall(r"`(crates/\w+/must-fail/\w+\.edit)`", content("README.md").decode())
+        self.assertGreater(len(edits), 10)
+        for edit in edits:
+            with self.subTest(edit):
+                self.assertTrue(os.path.exists(path(edit)))
+
+    def test_each_script_tells_its_use(self):
+        for name in SCRIPTS:
+            with self.subTest(name):
+                done = self.script(name, "--help")
+                self.assertEqual((done.returncode, done.stderr), (0, b""))
+                self.assertIn(b"usage: " + name.encode(), done.stdout)
+
+    def test_the_bench_is_named_or_nothing_is_measured(self):
+        places = {name: value for name, value in os.environ.items() if name != "HM_BENCH"}
+        for words, more in (([], {}), (["missing"], {}), ([], {"HM_BENCH": "missing"}), (["a", "b"], {}),
+                            (["-x"], {})):
+            with self.subTest(words=words, more=more):
+                done = self.script("bench", *words, env={**places, **more}, cwd=self.folder)
+                self.is_refused(done, "bench: ")
+
+    def test_the_bench_gets_the_built_program(self):
+        self.made(b"import sys\nprint(' '.join(sys.argv[1:]))\nsys.exit(7)\n", "bench.py")
+        done = self.script("bench", self.folder, "--", "--work", "tiny")
+        self.assertEqual((done.returncode, done.stderr), (1, b""))
+        self.assertIn(b"--hm %s --work tiny\n" % os.fsencode(path("crates/hm_tool/out/hm_tool")), done.stdout)
