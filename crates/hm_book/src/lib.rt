@@ -21,3 +21,4 @@ pub use laws::{
 };
 pub use limits::Limits;
 pub use priority::crosses;
+pub use trading::rest_of;

@@ -24,7 +24,8 @@ fn rests(resting: &[Resting], order: &Order) -> bool
         .any(|other| other.file == order.file && other.id == order.id)
 }
 
-fn rest_of(order: &Order, root: u64, left: u32) -> Resting
+/// What is left of an order with this root number, as it rests.
+pub fn rest_of(order: &Order, root: u64, left: u32) -> Resting
     ensures { result ≡ rest_of order.now root left }
 {
     Resting {

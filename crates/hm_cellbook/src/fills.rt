@@ -1,6 +1,5 @@
 //! Trading with the orders of the opposite side, best first.
 ghost use Rattle.std.specs.Prelude.{◌≡◌, ◌+◌, ◌*◌, ◌<◌, ◌≤◌, nat_le, if◌then◌else◌, ℕ, List, Err, IfOk, OnOk, length, option_and_then, Contains};
-ghost use Rattle.hm_orders.specs.declared.order.Kind.TheVariants.{Limit};
 ghost use Rattle.hm_orders.specs.Orders.{IsTradingSide};
 ghost use Rattle.hm_model.specs.Building.{Builds};
 ghost use Rattle.hm_list.specs.Places.{SameOutside};
@@ -15,7 +14,7 @@ use hm_agreement::BookUsage;
 use hm_book::{Resting, crosses};
 use hm_list::{first, put, remove};
 use hm_model::Caller;
-use hm_orders::{Fill, Kind, Order, Side};
+use hm_orders::{Fill, Order};
 use std::alloc::Global;
 
 /// What trading has made of an order.

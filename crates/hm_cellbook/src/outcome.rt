@@ -5,7 +5,7 @@ ghost use Rattle.hm_orders.specs.Orders.{IsTradingSide, IsWellFormed};
 ghost use Rattle.hm_model.specs.Building.{Builds};
 ghost use Rattle.hm_list.specs.Places.{SameOutside};
 ghost use Rattle.hm_book.specs.declared.book.Resting.{Resting};
-ghost use Rattle.hm_book.specs.Effect.{rest_of, rests, trade_effect};
+ghost use Rattle.hm_book.specs.Effect.{rests, trade_effect};
 ghost use Rattle.hm_cellbook.specs.Cost.{cells_cost};
 ghost use Rattle.hm_cellbook.specs.Fetched.{book_allowed, book_lawful};
 ghost use Rattle.hm_cellbook.specs.Sides.{IsListable};
@@ -15,7 +15,7 @@ use crate::attempt::AttemptRefused;
 use crate::fills::trade;
 use crate::pairs::{TOP, id_key, id_of, ids_place, pair_on, place_of};
 use hm_agreement::BookUsage;
-use hm_book::Resting;
+use hm_book::{Resting, rest_of};
 use hm_list::{find, put};
 use hm_model::Caller;
 use hm_orders::{Fate, Fill, Order};
@@ -28,21 +28,6 @@ pub(crate) struct Outcome {
     pub fills: Vec<Fill>,
     /// How many orders rest.
     pub resting: u64,
-}
-
-/// What is left of the order, as it rests.
-fn rest_of(order: &Order, root: u64, left: u32) -> Resting
-    ensures { result ≡ rest_of order.now root left }
-{
-    Resting {
-        side: order.side,
-        price: order.price,
-        root,
-        file: order.file,
-        row: order.row,
-        id: order.id,
-        quantity: left,
-    }
 }
 
 /// Whether an order of this file with this id rests already.

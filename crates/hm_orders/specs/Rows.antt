@@ -17,8 +17,8 @@ use Rattle.hm_orders.specs.declared.read.TextRefused.{TextRefused}
 use Rattle.hm_orders.specs.declared.read.ReadRefused.{ReadRefused}
 use Rattle.hm_orders.specs.declared.read.ReadRefused.TheVariants.{Text, Memory}
 
--- what comes next goes on from the value, and the first refusal stands
 infixl 10 ◌>>=◌
+-- what comes next goes on from the value, and the first refusal stands
 abbrev pub ◌>>=◌ : {A B E : Type 0} → Result A E → (A → Result B E) → Result B E
 (Ok x) >>= next = next x
 (Err e) >>= next = Err e
