@@ -12,6 +12,7 @@ pub mod Enabling
 pub mod Seats
 pub mod Fresh
 pub mod Safe
+pub mod Ends
 pub mod Stepping
 pub mod Moments
 pub mod HeldFacts

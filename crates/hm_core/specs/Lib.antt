@@ -3,6 +3,7 @@ pub mod Moving
 pub mod Good
 pub mod Fresh
 pub mod Safe
+pub mod Ends
 pub mod Stepping
 pub mod Hands
 pub mod SeatStates

@@ -2,6 +2,7 @@
 ghost use Rattle.std.specs.Prelude.{◌≡◌, ◌≤◌, IfOk};
 ghost use Rattle.hm_model.specs.History.{starting_count};
 ghost use Rattle.hm_core.specs.Running.{any_store, any_entry, core_of, site_of};
+ghost use Rattle.hm_core.specs.Ends.{ChainsEnd};
 ghost use Rattle.hm_core.specs.Safe.{ComesFromFresh, IsSafe, Leads};
 
 use crate::machine::{Machine, Memory};
@@ -12,9 +13,13 @@ use std::alloc::Global;
 
 impl Machine {
     /// Takes steps one after another. A step that is refused changes nothing.
+    ///
+    /// From each published version its chain ends after so many links as the heap has versions, at most: no region is
+    /// used again yet, so no cycle is done.
     pub fn apply_all(&mut self, steps: &[Step])
         ensures leads { Leads any_store any_entry (core_of self.old) (core_of self.new) }
         ensures safe { IsSafe (site_of self.new) (core_of self.new) }
+        ensures ends { ChainsEnd self.new.shape (core_of self.new).heap 0 }
         ensures site { site_of self.new ≡ site_of self.old }
     {
         for step in steps {
@@ -33,6 +38,7 @@ pub fn machine_after(
 ) -> Result<Machine, Memory>
     requires { starting_count start ≤ shape.versions }
     ensures safe { IfOk result (λ machine. IsSafe (site_of machine) (core_of machine)) }
+    ensures ends { IfOk result (λ machine. ChainsEnd machine.shape (core_of machine).heap 0) }
     ensures led { IfOk result (λ machine.
         ComesFromFresh any_store any_entry (site_of machine) (core_of machine)) }
     ensures shape { IfOk result (λ machine. machine.shape ≡ shape) }

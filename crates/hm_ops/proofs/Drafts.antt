@@ -1,5 +1,5 @@
 -- A whole draft, from the words that were written.
-use Rattle.std.proofs.Common.{◌≡◌, ◌≢◌, ◌<◌, ◌≤◌, ◌+◌, ◌-◌, ℕ, zero, suc, List, [], ◌∷◌, length, get_or, map, slice_index, is_some, unwrap_or, Option, Some, None, IsSome, refl, sym, ap, ◌∙◌, subst, arith, inl, inr}
+use Rattle.std.proofs.Common.{◌≡◌, ◌≢◌, ◌<◌, ◌≤◌, ◌+◌, ◌-◌, ℕ, zero, suc, List, [], ◌∷◌, length, get_or, map, slice_index, is_some, unwrap_or, Option, Some, None, IsSome, refl, sym, ap, ◌∙◌, subst, arith, inl}
 use Rattle.std.proofs.Math.ListN.{get_or-map}
 use Rattle.std.proofs.lemmas.List.{length-map}
 use native.Mathlib.Decide.{dec_le, ℕ_discrete}
@@ -14,34 +14,12 @@ use Rattle.hm_cells.specs.Facts.{Facts, place_name, sight_of}
 use Rattle.hm_cells.specs.Calls.{drafted_name, drafted_numbers, drafted_refs, drafted_word, version_in}
 use Rattle.hm_cells.proofs.Fields.{naming_in}
 use Rattle.hm_cells.proofs.Rooted.{name_place}
-use Rattle.hm_ops.specs.Writing.{Roots, Drafts, Lasts, Writes, reference_word, version_of}
+use Rattle.hm_ops.specs.Writing.{Roots, Drafts, Writes, name_by, reference_word, version_of}
 use Rattle.hm_ops.proofs.Readings.{same_list}
-
--- a reference to what a root place names lasts
-pub word_lasts : (roots : Roots) (j : ℕ) (r : Option Root) → Lasts roots j (reference_word roots r)
-word_lasts roots j None = inr (inl refl)
-word_lasts roots j (Some r) = go (get_or roots r.0 None) refl
-  where
-    go : (o : Option Version) → get_or roots r.0 None ≡ o → Lasts roots j (naming_word o)
-    go None at = inr (inl refl)
-    go (Some v) at = inr (inr (v, refl, (r.0, at)))
-
--- and so do those of several
-pub words_last : (roots now : Roots) (first : ℕ) (refs : Places) (words : List ℕ) → now ≡ roots
-    → words ≡ map (reference_word roots) refs → (i : ℕ) → Lasts now (first + i) (slice_index words i)
-words_last roots now first refs words same are i =
-    subst (λ (l : Roots). Lasts l (first + i) (slice_index words i)) (sym same)
-    (subst (Lasts roots (first + i)) (sym (word_at_place roots refs words i are))
-    (word_lasts roots (first + i) (get_or refs i None)))
-  where
-    word_at_place : (roots : Roots) (refs : Places) (words : List ℕ) (i : ℕ) → words ≡ map
-        (reference_word roots) refs
-        → slice_index words i ≡ reference_word roots (get_or refs i None)
-    word_at_place roots refs words i are = ap (λ (l : List ℕ). get_or l i 0) are ∙ get_or-map
-        (reference_word roots) refs i None
+use Rattle.hm_ops.proofs.Writings.{places_kept, words_last}
 
 -- the version that a word names
-word_back : (o : Option Version) → version_in (naming_word o) ≡ o
+pub word_back : (o : Option Version) → version_in (naming_word o) ≡ o
 word_back None = refl
 word_back (Some v) = naming_in v
 
@@ -79,6 +57,16 @@ module _ {U : Type 0} where
       ap (λ (l : Roots). place_name t.part.hands.held (get_or l r.0 None)) (sym roots)
       ∙ (sym (name_place t.part.hands.held t.roots r.0) ∙ ap (λ (c : Sight U). name_at c.roots r.0) same)
 
+  -- a word that refers to what a place names gives that name
+  pub name_back : (s : Facts U) (r : Option Root) → name_by s (reference_word s.roots r) ≡ name_of (sight_of s) r
+  name_back s r =
+      ap (place_name s.part.hands.held) (word_back (version_of s.roots r)) ∙ place_named s s r refl refl
+
+  pub names_back : (s : Facts U) (refs : Places)
+      → map (name_by s) (map (reference_word s.roots) refs) ≡ names_of (sight_of s) refs
+  names_back s [] = refl
+  names_back s (r ∷ rs) = λ i. name_back s r i ∷ names_back s rs i
+
   module _ (s t1 t2 t3 : Facts U) (refs : Places) (numbers words : List ℕ) (four : length refs ≡ 4)
       (ten : length numbers ≡ 10)
       (are : words ≡ map (reference_word s.roots) refs) (stamp : Writes s 1 (0 ∷ []) 1 t1)
@@ -92,6 +80,9 @@ module _ {U : Type 0} where
     roots2 : t2.roots ≡ s.roots
     roots2 = given.roots ∙ stamp.roots
 
+    hand2 : t2.hand ≡ s.hand
+    hand2 = given.hand ∙ stamp.hand
+
     same_all : sight_of t3 ≡ sight_of s
     same_all = last.same ∙ (given.same ∙ stamp.same)
 
@@ -102,7 +93,8 @@ module _ {U : Type 0} where
     reference_there : (i : ℕ) → i < 4 → IsWritten t3.part.draft.written (2 + i) (slice_index words i)
     reference_there i low =
         last.below (2 + i) (slice_index words i) (omega arith)
-        (words_last s.roots t2.roots 2 refs words roots2 are i)
+        (words_last s t2 words roots2 hand2 (places_kept s refs words are) (2 + i) i
+        (let w = wide in omega arith))
         (given.here i (let w = wide in omega arith))
 
     number_there : (i : ℕ) → i < 10 → IsWritten t3.part.draft.written (6 + i) (slice_index numbers i)

@@ -4,8 +4,11 @@ pub mod Drafts
 pub mod Hands
 pub mod Quiet
 pub mod Readings
+pub mod References
 pub mod Settled
 pub mod Walks
 pub mod Writings
 pub mod Stores
 pub mod Replaces
+pub mod Copies
+pub mod Changes

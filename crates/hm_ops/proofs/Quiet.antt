@@ -1,5 +1,5 @@
 -- What a move leaves of a pass that others see.
-use Rattle.std.proofs.Common.{◌≡◌, ◌≤◌, ◌+◌, ◌-◌, ℕ, List, [], ◌∷◌, ◌++◌, length, map, append-nil, Option, Some, None, refl, sym, ap, ◌∙◌, arith}
+use Rattle.std.proofs.Common.{◌≡◌, ◌≤◌, ◌+◌, ◌-◌, ℕ, List, [], ◌∷◌, ◌++◌, length, map, append-nil, Option, Some, None, refl, sym, ap, ◌∙◌, subst, arith}
 use Rattle.hm_shape.specs.declared.version.Version.{Version}
 use Rattle.hm_model.specs.declared.entry.Entry.{Entry}
 use Rattle.hm_model.specs.Store.{PlainStore}
@@ -10,7 +10,7 @@ use Rattle.hm_core.specs.Moving.{count_of, entry_of, listed, publishes, seen_aft
 use Rattle.hm_cells.specs.Facts.{Facts, Made, Fits, IsSound, room_of, sight_of}
 use Rattle.hm_cells.specs.Calls.{Takes}
 use Rattle.hm_cells.proofs.Stepped.{held_few}
-use Rattle.hm_ops.specs.Resting.{Keeps}
+use Rattle.hm_ops.specs.Resting.{Keeps, Works}
 
 version_in : Known → Version
 version_in k = k.version
@@ -21,6 +21,22 @@ module _ {U : Type 0} where
   untended s t = record { copying = refl; moves = refl; tends = refl }
 
 module _ {U : Type 0} (lawful : U → PlainStore → Type 0) (allowed : U → PlainStore → Entry → Type 0) where
+  -- a pass at rest may begin to work, and rests again where nothing is in hand
+  pub rest_works : (s : Facts U) (m : Made U) → Keeps lawful allowed s m → Works lawful allowed s m
+  rest_works s m k = record {
+    fits = k.resting.fits;
+    hand = let e : length s.hand ≡ 0 = ap (λ (l : List Version). length l) k.resting.empty in omega arith;
+    few = k.resting.few;
+    sound = k.sound;
+  }
+
+  pub work_rests : (s : Facts U) (m : Made U) → Works lawful allowed s m → s.hand ≡ []
+      → Keeps lawful allowed s m
+  work_rests s m k empty = record {
+    resting = record { fits = k.fits; empty = empty; few = k.few };
+    sound = k.sound;
+  }
+
   module _ (s t : Facts U) (act : Act) (x : ℕ) (took : Takes lawful allowed s act x t) where
     pub site_kept : t.part.site ≡ s.part.site
     site_kept = ap (λ (f : Facts U). f.part.site) took.is
@@ -51,6 +67,38 @@ module _ {U : Type 0} (lawful : U → PlainStore → Type 0) (allowed : U → Pl
     hand_taken found new empty is is' =
         ap (λ (f : Facts U). f.hand) took.is
         ∙ (λ i. empty i ++ map (λ k. k.version) (listed (is i) ++ listed (is' i)))
+
+    few_working : length s.hand ≤ 4 → length s.part.hands.held ≤ 400 → IsSound lawful allowed s
+        → IsSound lawful allowed t → length t.part.hands.held ≤ 400
+    few_working hand few sound after =
+        held_few lawful allowed s t act x sound after took 400 few (omega arith)
+
+    -- a move that takes nothing into the hand leaves what is there
+    pub hand_kept : took.found ≡ None → publishes act x ≡ None → t.hand ≡ s.hand
+    hand_kept none nothing =
+        ap (λ (f : Facts U). f.hand) took.is
+        ∙ ((λ i. s.hand ++ map (λ k. k.version) (listed (none i) ++ listed (nothing i)))
+        ∙ append-nil s.hand)
+
+    -- and the pass at work
+    pub works_none : (m : Made U) → Works lawful allowed s m → IsSound lawful allowed t → took.found ≡ None
+        → publishes act x ≡ None → Works lawful allowed t m
+    works_none m k after none nothing = record {
+      fits = fits_kept m k.fits;
+      hand = subst (λ (l : List Version). length l ≤ 4) (sym (hand_kept none nothing)) k.hand;
+      few = few_working k.hand k.few k.sound after;
+      sound = after;
+    }
+
+    -- so does a move that takes one version there, where the hand has place
+    pub works_one : (m : Made U) → Works lawful allowed s m → IsSound lawful allowed t → length t.hand ≤ 4
+        → Works lawful allowed t m
+    works_one m k after hand = record {
+      fits = fits_kept m k.fits;
+      hand = hand;
+      few = few_working k.hand k.few k.sound after;
+      sound = after;
+    }
 
     -- a move that takes nothing into the hand keeps the pass at rest
     pub keeps_none : (m : Made U) → Keeps lawful allowed s m → IsSound lawful allowed t → took.found ≡ None

@@ -1,5 +1,5 @@
 -- Conditional stores, from their steps.
-use Rattle.std.proofs.Common.{◌≡◌, ◌+◌, ℕ, get_or, Some, None, sym, ap, ◌∙◌, subst, arith}
+use Rattle.std.proofs.Common.{◌≡◌, ◌+◌, ℕ, get_or, Some, None, sym, ap, ◌∙◌, subst, arith, inl}
 use Rattle.hm_shape.specs.declared.version.Version.{Version}
 use Rattle.hm_model.specs.declared.entry.Tried.TheVariants.{Stored, Changed}
 use Rattle.hm_model.specs.declared.entry.Entry.{Entry}
@@ -20,6 +20,7 @@ use Rattle.hm_ops.specs.Writing.{Roots}
 use Rattle.hm_ops.specs.Storing.{Copies, Ends, tried_at}
 use Rattle.hm_ops.proofs.Quiet.{untended}
 use Rattle.hm_ops.proofs.Settled.{root_named}
+use Rattle.hm_ops.proofs.Stores.{ends_from}
 use Rattle.hm_ops.proofs.Walks.{placed_held}
 
 module _ {U : Type 0} (lawful : U → PlainStore → Type 0) (allowed : U → PlainStore → Entry → Type 0)
@@ -31,7 +32,7 @@ module _ {U : Type 0} (lawful : U → PlainStore → Type 0) (allowed : U → Pl
       (rooted : IsRooted s v) where
     known_still : known_at t v ≡ known_at s v
     known_still =
-        copies.known v (rooted.0, ap (λ (l : Roots). get_or l rooted.0 None) reads.roots ∙ rooted.1)
+        copies.known v (inl (rooted.0, ap (λ (l : Roots). get_or l rooted.0 None) reads.roots ∙ rooted.1))
         ∙ reads.known
 
     pub copy_whole : stamp ≡ (contents_at s v).stamp
@@ -51,6 +52,15 @@ module _ {U : Type 0} (lawful : U → PlainStore → Type 0) (allowed : U → Pl
         (StoreIf t.part.number k.name stamp (names_of (sight_of t) refs) numbers Stored)) (sym known_still)
         (subst (λ (c : Sight U). MayEnter lawful allowed c
         (StoreIf c.number (known_at s v).name stamp (names_of c refs) numbers Stored)) same may)
+
+    -- it was hung there
+    pub copy_ends : (u : Facts U) → Ends lawful allowed m t (tried_at t v stamp refs numbers Stored) 1 u
+        → Ends lawful allowed m s (tried_at s v stamp refs numbers Stored) 1 u
+    copy_ends u ends =
+        let same : sight_of t ≡ sight_of s = copies.same ∙ reads.same in
+        ends_from lawful allowed m s t u (tried_at s v stamp refs numbers Stored)
+        (tried_at t v stamp refs numbers Stored) 1 same
+        (λ i. StoreIf (same i).number (known_still i).name stamp (names_of (same i) refs) numbers Stored) ends
 
   -- a pass has walked to a version
   module _ (s p : Facts U) (at : Root) (v : Version) (stamp : ℕ) (refs : Places) (numbers : Numbers)

@@ -21,7 +21,7 @@ use Rattle.hm_cells.proofs.Found.{same_version}
 use Rattle.hm_cells.proofs.Stepped.{kept_held, kept_stays, held_lookable, known_fit}
 use Rattle.hm_cells.proofs.Stepped as stepped
 use Rattle.hm_ops.specs.Resting.{IsAtPlace, Keeps}
-use Rattle.hm_ops.specs.Walking.{GoesOn, Walks}
+use Rattle.hm_ops.specs.Walking.{GoesOn, IsLast, Walks}
 use Rattle.hm_ops.proofs.Quiet.{fits_kept, few_kept, hand_taken, keeps_none, room_kept, roots_kept, same_sight}
 use Rattle.hm_ops.proofs.Settled.{held_name, place_below, root_named, set_again, settled, settled_is, settled_keeps, settled_names}
 
@@ -65,25 +65,18 @@ module _ {U : Type 0} (lawful : U → PlainStore → Type 0) (allowed : U → Pl
 
   module _ (s t : Facts U) (r : Root) (v : Version) (k : Keeps lawful allowed s m) (at : IsAtPlace s r.0 v)
       (after : IsSound lawful allowed t) where
-    -- the walk ends
-    pub walk_ends : Takes lawful allowed s
-        (LoadLink (known_at s v) (Some (Fetch s.part.number (known_at s v).name (known_at s v).contents))) 0 t
-        → Walks lawful allowed m s r v t
-    walk_ends took =
-        let fetch : Option Entry = Some (Fetch s.part.number (known_at s v).name (known_at s v).contents) in
-        let act : Act = LoadLink (known_at s v) fetch in
-        let stays = kept_stays lawful allowed s t act 0 k.sound after took v (inl (r.0, at)) in
-        let room = room_kept lawful allowed s t act 0 took refl in
+    -- a link of 0 is the last
+    pub looks_last : (want : Option Entry) → Takes lawful allowed s (LoadLink (known_at s v) want) 0 t
+        → IsLast lawful allowed m s v want t
+    looks_last want took =
+        let act : Act = LoadLink (known_at s v) want in
         record {
-          fetch = subst (λ (n : Known). Fetches lawful allowed (sight_of s) (sight_of t) r n.contents)
-              (sym stays.1)
-              (fetches_enters lawful allowed (sight_of s) (sight_of t) r (known_at s v).contents
-              (known_at s v).name
-              (root_named s r.0 v at (placed_held s r.0 v k at)) took.tells
-              record { falls = omega arith; by_one = omega arith; kept = λ _. room });
+          tells = took.tells;
+          same = λ none. same_sight lawful allowed s t act 0 took none refl;
           names = took.names;
-          place = ap (λ (l : List (Option Version)). get_or l r.0 None)
-              (roots_kept lawful allowed s t act 0 took) ∙ at;
+          room = room_kept lawful allowed s t act 0 took refl;
+          roots = roots_kept lawful allowed s t act 0 took;
+          known = (kept_stays lawful allowed s t act 0 k.sound after took v (inl (r.0, at))).1;
           keeps = keeps_none lawful allowed s t act 0 took m k after
               (link_none (known_at s v) took.found took.what) refl;
         }
@@ -185,3 +178,24 @@ module _ {U : Type 0} (lawful : U → PlainStore → Type 0) (allowed : U → Pl
           → GoesOn lawful allowed m s r v next u
       link_goes p u put let_go = goes_by exchange next took took.what (where_more (Some entry) next.0)
           (where_more (Some fresh) next.0) p u put let_go
+
+  -- a walk ends at the last version, where the object is fetched
+  pub walk_ends : (s p t : Facts U) (r : Root) (v : Version) → sight_of p ≡ sight_of s → IsAtPlace p r.0 v
+      → Keeps lawful allowed p m
+      → IsLast lawful allowed m p v
+      (Some (Fetch p.part.number (known_at p v).name (known_at p v).contents)) t
+      → Walks lawful allowed m s r v t
+  walk_ends s p t r v same at k last =
+      let room = last.room in
+      record {
+        fetch = subst (λ (c : Sight U). Fetches lawful allowed c (sight_of t) r (known_at t v).contents) same
+            (subst (λ (n : Known). Fetches lawful allowed (sight_of p) (sight_of t) r n.contents)
+            (sym last.known)
+            (fetches_enters lawful allowed (sight_of p) (sight_of t) r (known_at p v).contents
+            (known_at p v).name
+            (root_named p r.0 v at (placed_held p r.0 v k at)) last.tells
+            record { falls = omega arith; by_one = omega arith; kept = λ _. room }));
+        names = last.names ∙ ap (λ (c : Sight U). c.roots) same;
+        place = ap (λ (l : List (Option Version)). get_or l r.0 None) last.roots ∙ at;
+        keeps = last.keeps;
+      }

@@ -1,21 +1,23 @@
 -- Words of a caller's next version, one after another.
-use Rattle.std.proofs.Common.{◌≡◌, ◌≢◌, ◌<◌, ◌+◌, ℕ, true, true≢false, List, get_or, slice_index, Some, None, refl, sym, ap, ◌∙◌, subst, arith, inl, inr}
+use Rattle.std.proofs.Common.{◌≡◌, ◌≢◌, ◌<◌, ◌+◌, ℕ, true, true≢false, List, get_or, length, map, slice_index, All, Option, Some, None, Contains, refl, sym, ap, ◌∙◌, subst, arith, inl, inr}
+use Rattle.std.proofs.lemmas.List.Elements.{All-get_or, All-map}
 use native.Mathlib.Decide.{ℕ_discrete}
 use mathlib.Core.Logic.{dite}
 use Rattle.hm_shape.specs.declared.version.Version.{Version}
 use Rattle.hm_shape.specs.Words.{naming_word}
+use Rattle.hm_model.specs.declared.root.Root.{Root}
 use Rattle.hm_model.specs.declared.entry.Entry.{Entry}
 use Rattle.hm_model.specs.Store.{PlainStore}
-use Rattle.hm_model.specs.Sight.{Sight}
+use Rattle.hm_model.specs.Sight.{Places, Sight}
 use Rattle.hm_core.specs.declared.moving.Act.TheVariants.{StoreOwn}
 use Rattle.hm_core.specs.Moving.{is_naming, HasRoom, IsWritten, Names}
 use Rattle.hm_cells.specs.Facts.{Facts, Made, IsSound, known_at, sight_of}
 use Rattle.hm_cells.specs.Calls.{Takes}
 use Rattle.hm_cells.proofs.Found.{found_there}
-use Rattle.hm_cells.proofs.Stepped.{IsSafe, held_lookable, kept_held, kept_stays, known_version, written_here, written_stays}
-use Rattle.hm_ops.specs.Resting.{Keeps}
-use Rattle.hm_ops.specs.Writing.{Roots, Lasts, Writes}
-use Rattle.hm_ops.proofs.Quiet.{keeps_none, roots_kept, same_sight}
+use Rattle.hm_cells.proofs.Stepped.{held_lookable, kept_held, kept_stays, known_version, written_here, written_stays}
+use Rattle.hm_ops.specs.Resting.{IsKept, Works}
+use Rattle.hm_ops.specs.Writing.{Lasts, NamesKept, Writes, reference_word}
+use Rattle.hm_ops.proofs.Quiet.{hand_kept, roots_kept, same_sight, works_none}
 use Rattle.hm_ops.proofs.Settled.{held_known}
 
 module _ {U : Type 0} where
@@ -25,11 +27,50 @@ module _ {U : Type 0} where
       let rooms = ap (λ (c : Sight U). c.room) same in
       omega arith
 
+  -- the same root places and the same hand keep the same versions
+  pub kept_same : (s t : Facts U) → t.roots ≡ s.roots → t.hand ≡ s.hand → (v : Version) → IsKept s v
+      → IsKept t v
+  kept_same s t roots hand v (inl (r, at)) =
+      inl (r, ap (λ (l : List (Option Version)). get_or l r None) roots ∙ at)
+  kept_same s t roots hand v (inr c) = inr (subst (λ (l : List Version). Contains l v) (sym hand) c)
+
+  pub names_same : (s t : Facts U) → t.roots ≡ s.roots → t.hand ≡ s.hand → (w : ℕ) → NamesKept s w
+      → NamesKept t w
+  names_same s t roots hand w (inl none) = inl none
+  names_same s t roots hand w (inr (v, is, kept)) = inr (v, is, kept_same s t roots hand v kept)
+
+  pub lasts_same : (s t : Facts U) → t.roots ≡ s.roots → t.hand ≡ s.hand → (j w : ℕ) → Lasts s j w
+      → Lasts t j w
+  lasts_same s t roots hand j w (inl plain) = inl plain
+  lasts_same s t roots hand j w (inr names) = inr (names_same s t roots hand w names)
+
+  -- words that name what is kept last
+  pub words_last : (s now : Facts U) (words : List ℕ) → now.roots ≡ s.roots → now.hand ≡ s.hand
+      → All (NamesKept s) words → (j i : ℕ) → i < length words → Lasts now j (slice_index words i)
+  words_last s now words roots hand all j i low =
+      inr (names_same s now roots hand (slice_index words i) (All-get_or (NamesKept s) words i 0 low all))
+
+  -- a reference to what a root place names is kept, and so are those of several
+  pub place_kept : (s : Facts U) (r : Option Root) → NamesKept s (reference_word s.roots r)
+  place_kept s None = inl refl
+  place_kept s (Some r) = go (get_or s.roots r.0 None) refl
+    where
+      go : (o : Option Version) → get_or s.roots r.0 None ≡ o → NamesKept s (naming_word o)
+      go None at = inl refl
+      go (Some v) at = inr (v, refl, inl (r.0, at))
+
+  pub places_kept : (s : Facts U) (refs : Places) (words : List ℕ)
+      → words ≡ map (reference_word s.roots) refs → All (NamesKept s) words
+  places_kept s refs words are =
+      subst (All (NamesKept s)) (sym are)
+      (All-map (NamesKept s) (reference_word s.roots) refs (λ i d low. place_kept s (get_or refs i d)))
+
   pub wrote_none : (s : Facts U) (first : ℕ) (words : List ℕ) → Writes s first words 0 s
   wrote_none s first words = record {
     same = refl;
     roots = refl;
-    known = λ v rooted. refl;
+    hand = refl;
+    known = λ v kept. refl;
     here = λ i low. absurd (omega arith);
     below = λ j w low lasts was. was;
   }
@@ -40,12 +81,12 @@ same_store i j w x e = cc
 module _ {U : Type 0} (lawful : U → PlainStore → Type 0) (allowed : U → PlainStore → Entry → Type 0)
     (m : Made U) where
   -- a word that lasts names a held version, where it names one
-  pub lasting_named : (s : Facts U) (i w : ℕ) → Keeps lawful allowed s m → Lasts s.roots i w
+  pub lasting_named : (s : Facts U) (i w : ℕ) → IsSound lawful allowed s → Lasts s i w
       → is_naming i ≡ true → Names s.part.hands.held w
   lasting_named s i w k (inl plain) naming = absurd (true≢false (sym naming ∙ plain))
   lasting_named s i w k (inr (inl none)) naming = inl none
-  lasting_named s i w k (inr (inr (v, is, (r, at)))) naming =
-      let held = kept_held lawful allowed s v k.sound (inl (r, at)) in
+  lasting_named s i w k (inr (inr (v, is, kept))) naming =
+      let held = kept_held lawful allowed s v k kept in
       let same : (known_at s v).version ≡ v =
       known_version lawful allowed s v (held_lookable lawful allowed s v held) in
       inr (
@@ -54,33 +95,29 @@ module _ {U : Type 0} (lawful : U → PlainStore → Type 0) (allowed : U → Pl
         is ∙ ap (λ (w : Version). naming_word (Some w)) (sym same),
       )
 
-  module _ (s t u : Facts U) (first n w : ℕ) (words : List ℕ) (k : Keeps lawful allowed t m)
+  module _ (s t u : Facts U) (first n w : ℕ) (words : List ℕ) (k : Works lawful allowed t m)
       (after : IsSound lawful allowed u)
       (took : Takes lawful allowed t (StoreOwn (first + n) w) w u) where
-    pub keeps_stored : Keeps lawful allowed u m
-    keeps_stored = keeps_none lawful allowed t u (StoreOwn (first + n) w) w took m k after took.what refl
+    pub works_stored : Works lawful allowed u m
+    works_stored = works_none lawful allowed t u (StoreOwn (first + n) w) w took m k after took.what refl
 
-    stays : (j x : ℕ) → first + n ≢ j → Lasts t.roots j x → IsWritten t.part.draft.written j x
+    stays : (j x : ℕ) → first + n ≢ j → Lasts t j x → IsWritten t.part.draft.written j x
         → IsWritten u.part.draft.written j x
     stays j x other lasts was =
         written_stays lawful allowed t u (StoreOwn (first + n) w) w k.sound after took j x refl
-        (λ i y e same. other (same_store (first + n) i w y e ∙ same)) was (safe lasts)
-      where
-        safe : Lasts t.roots j x → IsSafe lawful allowed t u (StoreOwn (first + n) w) w k.sound after took j x
-        safe (inl plain) = inl plain
-        safe (inr (inl none)) = inr (inl none)
-        safe (inr (inr (v, is, rooted))) = inr (inr (v, is, inl rooted))
+        (λ i y e same. other (same_store (first + n) i w y e ∙ same)) was lasts
 
     -- one word more is written
     pub wrote_more : Writes s first words n t → w ≡ slice_index words n → first + n < 16
-        → ((i : ℕ) → i < n + 1 → Lasts s.roots (first + i) (slice_index words i)) → Writes s first words
+        → ((i : ℕ) → i < n + 1 → Lasts s (first + i) (slice_index words i)) → Writes s first words
         (n + 1) u
     wrote_more before is low lasts = record {
       same = same_sight lawful allowed t u (StoreOwn (first + n) w) w took refl refl ∙ before.same;
       roots = roots_kept lawful allowed t u (StoreOwn (first + n) w) w took ∙ before.roots;
-      known = λ v rooted. (kept_stays lawful allowed t u (StoreOwn (first + n) w) w k.sound after took v
-          (inl (rooted.0, ap (λ (roots : Roots). get_or roots rooted.0 None) before.roots ∙ rooted.1))).1
-          ∙ before.known v rooted;
+      hand = hand_kept lawful allowed t u (StoreOwn (first + n) w) w took took.what refl ∙ before.hand;
+      known = λ v kept. (kept_stays lawful allowed t u (StoreOwn (first + n) w) w k.sound after took v
+          (kept_same s t before.roots before.hand v kept)).1
+          ∙ before.known v kept;
       here = λ i less. dite (ℕ_discrete i n)
           (λ (e : i ≡ n). subst (λ (j : ℕ). IsWritten u.part.draft.written (first + j)
           (slice_index words j)) (sym e)
@@ -91,17 +128,11 @@ module _ {U : Type 0} (lawful : U → PlainStore → Type 0) (allowed : U → Pl
           (before.below j x less safe was);
     }
       where
-        back : (j x : ℕ) → Lasts s.roots j x → Lasts t.roots j x
-        back j x l = subst (λ (roots : Roots). Lasts roots j x) (sym before.roots) l
-
-        safe : Lasts t.roots (first + n) w → IsSafe lawful allowed t u (StoreOwn (first + n) w) w k.sound
-            after took (first + n) w
-        safe (inl plain) = inl plain
-        safe (inr (inl none)) = inr (inl none)
-        safe (inr (inr (v, same, rooted))) = inr (inr (v, same, inl rooted))
+        back : (j x : ℕ) → Lasts s j x → Lasts t j x
+        back j x l = lasts_same s t before.roots before.hand j x l
 
         now : IsWritten u.part.draft.written (first + n) w
         now = written_here lawful allowed t u (StoreOwn (first + n) w) w k.sound after took (first + n) w
             refl low
-            (safe (subst (Lasts t.roots (first + n)) (sym is)
-            (back (first + n) (slice_index words n) (lasts n (omega arith)))))
+            (subst (Lasts t (first + n)) (sym is)
+            (back (first + n) (slice_index words n) (lasts n (omega arith))))

@@ -1,5 +1,5 @@
 -- What a call of several steps asks of its pass, and what it keeps.
-use Rattle.std.specs.Prelude.{◌≡◌, ◌≢◌, ℕ, ◌≤◌, [], length, Some, None, slice_index_or}
+use Rattle.std.specs.Prelude.{◌≡◌, ◌≢◌, ℕ, ◌≤◌, ◌⊎◌, [], length, Some, None, Contains, slice_index_or}
 use Rattle.hm_shape.specs.declared.version.Version.{Version}
 use Rattle.hm_model.specs.declared.entry.Entry.{Entry}
 use Rattle.hm_model.specs.declared.root.Root.{Root}
@@ -7,9 +7,13 @@ use Rattle.hm_model.specs.Store.{PlainStore}
 use Rattle.hm_model.specs.Calls.{IsOutside}
 use Rattle.hm_cells.specs.Facts.{Facts, Made, Fits, IsSound}
 
--- between two calls a caller holds at most so many versions
+-- a caller holds at most so many versions
 abbrev pub most_resting : ℕ
 most_resting = 400
+
+-- within a call it has at most so many in hand: those that the references of one version name
+abbrev pub most_working : ℕ
+most_working = 4
 
 module _ {U : Type 0} where
   -- a pass rests where it was made with the cells, has nothing in hand, and holds few versions
@@ -26,6 +30,10 @@ module _ {U : Type 0} where
   abbrev pub IsRooted : Facts U → Version → Type 0
   IsRooted s v = (r : ℕ) × IsAtPlace s r v
 
+  -- a version is kept where a root place or the hand names it
+  abbrev pub IsKept : Facts U → Version → Type 0
+  IsKept s v = IsRooted s v ⊎ Contains s.hand v
+
   -- a root place does other than this one
   abbrev pub IsRootedBeside : ℕ → Facts U → Version → Type 0
   IsRootedBeside place s v = (r : ℕ) × (r ≢ place) × IsAtPlace s r v
@@ -38,4 +46,11 @@ module _ {U : Type 0} where
     -- a call leaves its pass at rest, and sound
     pub record Keeps (s : Facts U) (m : Made U) : Type 0 where
       pub resting : IsResting s m
+      pub sound : IsSound lawful allowed s
+
+    -- within a call a pass works, and may have a few versions in hand
+    pub record Works (s : Facts U) (m : Made U) : Type 0 where
+      pub fits : Fits s m
+      pub hand : length s.hand ≤ most_working
+      pub few : length s.part.hands.held ≤ most_resting
       pub sound : IsSound lawful allowed s

@@ -11,9 +11,9 @@ use Rattle.hm_model.specs.Store.{Numbers, PlainStore}
 use Rattle.hm_model.specs.Sight.{Places, Enters, names_of}
 use Rattle.hm_cells.specs.Facts.{Facts, Made, known_at, names_at, room_of, sight_of}
 use Rattle.hm_cells.specs.Calls.{IsWholeCopy}
-use Rattle.hm_ops.specs.declared.storing.Attempt.{Attempt}
-use Rattle.hm_ops.specs.declared.storing.Attempt.TheVariants as attempt
-use Rattle.hm_ops.specs.Resting.{IsRooted, Keeps}
+use Rattle.hm_ops.specs.declared.replacing.Attempt.{Attempt}
+use Rattle.hm_ops.specs.declared.replacing.Attempt.TheVariants as attempt
+use Rattle.hm_ops.specs.Resting.{IsKept, Keeps}
 use Rattle.hm_ops.specs.Walking.{GoesOn}
 
 module _ {U : Type 0} where
@@ -26,7 +26,8 @@ module _ {U : Type 0} where
   pub record Copies (s : Facts U) (x : Contents) (t : Facts U) : Type 0 where
     pub same : sight_of t ≡ sight_of s
     pub roots : t.roots ≡ s.roots
-    pub known : (v : Version) → IsRooted s v → known_at t v ≡ known_at s v
+    pub hand : t.hand ≡ s.hand
+    pub known : (v : Version) → IsKept s v → known_at t v ≡ known_at s v
     pub whole : IsWholeCopy t.part x
 
   module _ (lawful : U → PlainStore → Type 0) (allowed : U → PlainStore → Entry → Type 0) (m : Made U) where

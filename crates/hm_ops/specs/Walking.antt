@@ -9,7 +9,8 @@ use Rattle.hm_model.specs.Store.{PlainStore}
 use Rattle.hm_model.specs.Sight.{Rests, SetsRoot}
 use Rattle.hm_model.specs.Calls.{Fetches}
 use Rattle.hm_core.specs.Chain.{reference_at}
-use Rattle.hm_cells.specs.Facts.{Facts, Made, known_at, names_at, sight_of}
+use Rattle.hm_cells.specs.Facts.{Facts, Made, known_at, names_at, room_of, sight_of}
+use Rattle.hm_cells.specs.Calls.{Tells}
 use Rattle.hm_ops.specs.Resting.{IsAtPlace, Keeps}
 
 module _ {U : Type 0} where
@@ -36,10 +37,20 @@ module _ {U : Type 0} where
       pub nearer : ahead m t next < ahead m s v
       pub keeps : Keeps lawful allowed t m
 
-    -- one step of a walk goes on where a next version is found, and ends the walk where none is
-    abbrev pub Follows : Facts U → Root → Version → Option Version → Facts U → Type 0
-    Follows s r v None t = Walks s r v t
-    Follows s r v (Some next) t = GoesOn s r v next t
+    -- no version lies behind one: an entry is made where it was wanted, and else nothing shows to others
+    pub record IsLast (s : Facts U) (v : Version) (want : Option Entry) (t : Facts U) : Type 0 where
+      pub tells : Tells lawful allowed want (sight_of s) (sight_of t)
+      pub same : want ≡ None → sight_of t ≡ sight_of s
+      pub names : names_at t ≡ names_at s
+      pub room : room_of t.part ≡ room_of s.part
+      pub roots : t.roots ≡ s.roots
+      pub known : known_at t v ≡ known_at s v
+      pub keeps : Keeps lawful allowed t m
+
+    -- a look goes on where a next version is found, and knows the last where none is
+    abbrev pub Looks : Facts U → Root → Version → Option Entry → Option Version → Facts U → Type 0
+    Looks s r v want None t = IsLast s v want t
+    Looks s r v want (Some next) t = GoesOn s r v next t
 
     -- a load of a field shows nothing to others, and leaves what is known of the version
     pub record Reads (s : Facts U) (v : Version) (t : Facts U) : Type 0 where

@@ -2,13 +2,14 @@
 use Rattle.std.specs.Prelude.{◌≡◌, ℕ, ◌+◌, ◌<◌, ◌⊎◌, false, List, Option, Some, None, slice_index, slice_index_or}
 use Rattle.hm_shape.specs.declared.version.Version.{Version}
 use Rattle.hm_shape.specs.Words.{naming_word}
+use Rattle.hm_model.specs.declared.object.Name.{Name}
 use Rattle.hm_model.specs.declared.root.Root.{Root}
 use Rattle.hm_model.specs.Store.{Numbers}
 use Rattle.hm_model.specs.Sight.{Places, names_of}
 use Rattle.hm_core.specs.Moving.{is_naming, IsWritten}
-use Rattle.hm_cells.specs.Facts.{Facts, known_at, sight_of}
-use Rattle.hm_ops.specs.Resting.{IsRooted}
-use Rattle.hm_cells.specs.Calls.{IsWhole, drafted_numbers, drafted_refs}
+use Rattle.hm_cells.specs.Facts.{Facts, known_at, place_name, sight_of}
+use Rattle.hm_cells.specs.Calls.{IsWhole, drafted_numbers, drafted_refs, version_in}
+use Rattle.hm_ops.specs.Resting.{IsKept}
 
 -- what each root place names
 abbrev pub Roots : Type 0
@@ -23,23 +24,30 @@ version_of roots (Some r) = slice_index_or roots r.0 None
 abbrev pub reference_word : Roots → Option Root → ℕ
 reference_word roots r = naming_word (version_of roots r)
 
--- a word lasts where it names no version, or one that a root place names
-abbrev pub Lasts : Roots → ℕ → ℕ → Type 0
-Lasts roots j w = (is_naming j ≡ false) ⊎ ((w ≡ 0)
-    ⊎ ((v : Version) × (w ≡ naming_word (Some v))
-    × ((r : ℕ) × (slice_index_or roots r None ≡ Some v))))
-
 module _ {U : Type 0} where
+  -- a word may be written as a reference where it names a version that is kept, or none
+  abbrev pub NamesKept : Facts U → ℕ → Type 0
+  NamesKept s w = (w ≡ 0) ⊎ ((v : Version) × (w ≡ naming_word (Some v)) × IsKept s v)
+
+  -- word j of a version lasts where it names no version, or one that is kept
+  abbrev pub Lasts : Facts U → ℕ → ℕ → Type 0
+  Lasts s j w = (is_naming j ≡ false) ⊎ NamesKept s w
+
+  -- a word that refers to an object does so by a held version of it
+  abbrev pub name_by : Facts U → ℕ → Option Name
+  name_by s w = place_name s.part.hands.held (version_in w)
+
   -- the first n of these words are written from `first` on, and those before it that last are written still;
-  -- what is known of the versions at root places stays
+  -- what is known of the versions that are kept stays
   pub record Writes (s : Facts U) (first : ℕ) (words : List ℕ) (n : ℕ) (t : Facts U)
       : Type 0 where
     pub same : sight_of t ≡ sight_of s
     pub roots : t.roots ≡ s.roots
-    pub known : (v : Version) → IsRooted s v → known_at t v ≡ known_at s v
+    pub hand : t.hand ≡ s.hand
+    pub known : (v : Version) → IsKept s v → known_at t v ≡ known_at s v
     pub here : (i : ℕ) → i < n
         → IsWritten t.part.draft.written (first + i) (slice_index words i)
-    pub below : (j w : ℕ) → j < first → Lasts s.roots j w → IsWritten s.part.draft.written j w
+    pub below : (j w : ℕ) → j < first → Lasts s j w → IsWritten s.part.draft.written j w
         → IsWritten t.part.draft.written j w
 
   -- the caller's next version is written whole, with these references and numbers

@@ -14,9 +14,14 @@
 //! or waits.
 #![tactic(auto)]
 
+mod copying;
 mod creating;
 mod fetching;
+mod linking;
+#[cfg(test)]
+mod racing;
 mod reading;
+mod replacing;
 #[cfg(test)]
 mod side_by_side;
 mod storing;
@@ -27,4 +32,5 @@ mod writing;
 
 pub use creating::create;
 pub use fetching::{fetch, fetch_number, fetch_ref};
-pub use storing::store_if;
+pub use replacing::store_if;
+pub use storing::{store_number, store_ref};

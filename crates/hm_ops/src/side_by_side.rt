@@ -1,27 +1,28 @@
-//! Two callers that create side by side: what each has made, and that the other's places are as they were.
+//! Two callers side by side: what each has made, and that no store of either is lost.
 ghost use Rattle.std.specs.Prelude.{◌<◌};
 ghost use Rattle.hm_ops.specs.Resting.{IsResting};
 
-use crate::{create, fetch_number};
+use crate::tests::bare;
+use crate::{create, fetch, fetch_number, store_if, store_number};
 use hm_cells::{Cells, Pass};
-use hm_model::{AnyUsage, Root, Start};
+use hm_model::{AnyUsage, Root, Snapshot, Start, StoreIfRefused};
 use hm_shape::Shape;
 use std::marker::Model;
 use std::test::Fail;
 use std::thread;
 
-// How often each caller creates.
+// How often each caller creates, or stores.
 const TRIES: u32 = 300;
 
-// A caller's pass beside its cells. Of its creates it counts those that had room.
+// A caller's pass beside its cells. Of its creates and stores it counts those that had room.
 #[derive(Drop)]
-struct Maker<'c> {
+struct Runner<'c> {
     cells: &'c Cells<AnyUsage>,
     pass: Pass<AnyUsage>,
     made: u32,
 }
 
-impl<'c> Model for Maker<'c> {
+impl<'c> Model for Runner<'c> {
     ghost use Rattle.hm_model.specs.declared.usage.AnyUsage.{AnyUsage};
     ghost use Rattle.hm_cells.specs.Facts.{Facts};
     ghost use Rattle.hm_ops.specs.Resting.{IsResting};
@@ -33,11 +34,11 @@ impl<'c> Model for Maker<'c> {
     ghost invariant = { λ m. IsResting m.pass m.cells.now };
 }
 
-impl<'c> Maker<'c> {
-    fn new(cells: &'c Cells<AnyUsage>, pass: Pass<AnyUsage>) -> Maker<'c>
+impl<'c> Runner<'c> {
+    fn new(cells: &'c Cells<AnyUsage>, pass: Pass<AnyUsage>) -> Runner<'c>
         requires { IsResting pass cells.now }
     {
-        Maker {
+        Runner {
             cells,
             pass,
             made: 0,
@@ -64,6 +65,75 @@ impl<'c> Maker<'c> {
         let first = if self.pass.number() == 0 { 0 } else { 1000 };
         for i in 0..TRIES {
             self.make(first + u64::from(i));
+        }
+    }
+
+    // Number 0 of the common object is raised by one, if it is still what was fetched. Answers whether it was.
+    fn try_add(&mut self) -> Result<(), StoreIfRefused> {
+        let cells = self.cells;
+        if !self.pass.is_set(Root(0)) {
+            return Err(StoreIfRefused::Full);
+        }
+        let found = fetch(cells, &mut self.pass, Root(0), Root(4));
+        let mut numbers = found.numbers;
+        numbers[0] = numbers[0].wrapping_add(1);
+        if !self.pass.is_set(Root(0)) {
+            return Err(StoreIfRefused::Full);
+        }
+        store_if(
+            cells,
+            &mut self.pass,
+            Root(0),
+            found.stamp,
+            [None; 4],
+            numbers,
+        )
+    }
+
+    // It is raised by one, after as many attempts as it takes.
+    fn add(&mut self) {
+        for _ in 0..u64::MAX {
+            match self.try_add() {
+                Ok(()) => {
+                    self.made = self.made.saturating_add(1);
+                    return;
+                }
+                Err(StoreIfRefused::Changed { .. }) => {}
+                Err(StoreIfRefused::Full) => return,
+            }
+        }
+    }
+
+    fn add_all(&mut self) {
+        for _ in 0..TRIES {
+            self.add();
+        }
+    }
+
+    // Of the common object a number of this caller's own is stored.
+    fn store(&mut self, value: u64) {
+        let cells = self.cells;
+        let own = if self.pass.number() == 0 { 0 } else { 9 };
+        if self.pass.is_set(Root(0))
+            && store_number(cells, &mut self.pass, Root(0), own, value).is_ok()
+        {
+            self.made = self.made.saturating_add(1);
+        }
+    }
+
+    fn store_all(&mut self) {
+        for i in 0..TRIES {
+            self.store(u64::from(i) + 1);
+        }
+    }
+
+    // What the common object holds, if place 0 names it still.
+    fn common(&mut self) -> Option<Snapshot> {
+        let cells = self.cells;
+        if self.pass.is_set(Root(0)) {
+            Some(fetch(cells, &mut self.pass, Root(0), Root(4)))
+        } else {
+            None
         }
     }
 
@@ -103,16 +173,71 @@ fn two_callers_fill_their_own_places_side_by_side(rt: HostRuntime) -> Result<(),
         sides: [None, None, None, Some([8; 10])],
     };
     let (cells, passes) = Cells::make(rt.alloc(), shape, AnyUsage, start)?;
-    let mut makers = Vec::new(rt.alloc());
+    let mut runners = Vec::new(rt.alloc());
     for pass in passes {
-        makers.push(Maker::new(&cells, pass))?;
+        runners.push(Runner::new(&cells, pass))?;
     }
-    thread::for_each_mut(&rt, makers.as_mut_slice(), 2, &|_, maker| maker.make_all());
-    let mut second = makers.pop().expect(&rt, "the maker of caller 1");
-    let mut first = makers.pop().expect(&rt, "the maker of caller 0");
+    thread::for_each_mut(
+        &rt,
+        runners.as_mut_slice(),
+        2,
+        &|_, runner| runner.make_all(),
+    );
+    let mut second = runners.pop().expect(&rt, "the runner of caller 1");
+    let mut first = runners.pop().expect(&rt, "the runner of caller 0");
     assert_eq!(rt; first.counts(), (299, 0, 301));
     assert_eq!(rt; second.counts(), (300, 1, 300));
     assert_eq!(rt; first.numbers(), [Some(5), Some(298), None, None]);
     assert_eq!(rt; second.numbers(), [Some(5), None, Some(1299), None]);
+    Ok(())
+}
+
+// Each increment is a conditional store that is tried until it is stored.
+#[test]
+fn increments_of_two_callers_add_up(rt: HostRuntime) -> Result<(), Fail> {
+    let (cells, a, b) = bare(&rt, rt.alloc(), TRIES + 1)?;
+    let mut runners = vec![in rt.alloc(); Runner::new(&cells, a), Runner::new(&cells, b)]?;
+    thread::for_each_mut(
+        &rt,
+        runners.as_mut_slice(),
+        2,
+        &|_, runner| runner.add_all(),
+    );
+    let mut second = runners.pop().expect(&rt, "the runner of caller 1");
+    let mut first = runners.pop().expect(&rt, "the runner of caller 0");
+    assert_eq!(rt; first.counts(), (300, 0, 301));
+    assert_eq!(rt; second.counts(), (300, 1, 300));
+    let all = Snapshot {
+        stamp: 600,
+        numbers: [600, 0, 0, 0, 0, 0, 0, 0, 0, 0],
+        set: [false; 4],
+    };
+    assert_eq!(rt; first.common(), Some(all));
+    assert_eq!(rt; second.common(), Some(all));
+    Ok(())
+}
+
+// Each caller stores a number of its own, and leaves the other's as it finds it.
+#[test]
+fn stores_of_two_callers_into_one_object_are_not_lost(rt: HostRuntime) -> Result<(), Fail> {
+    let (cells, a, b) = bare(&rt, rt.alloc(), TRIES + 1)?;
+    let mut runners = vec![in rt.alloc(); Runner::new(&cells, a), Runner::new(&cells, b)]?;
+    thread::for_each_mut(
+        &rt,
+        runners.as_mut_slice(),
+        2,
+        &|_, runner| runner.store_all(),
+    );
+    let mut second = runners.pop().expect(&rt, "the runner of caller 1");
+    let mut first = runners.pop().expect(&rt, "the runner of caller 0");
+    let all = Snapshot {
+        stamp: 600,
+        numbers: [300, 0, 0, 0, 0, 0, 0, 0, 0, 300],
+        set: [false; 4],
+    };
+    assert_eq!(rt; first.common(), Some(all));
+    assert_eq!(rt; second.common(), Some(all));
+    assert_eq!(rt; first.counts(), (300, 0, 301));
+    assert_eq!(rt; second.counts(), (300, 1, 300));
     Ok(())
 }

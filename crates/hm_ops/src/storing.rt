@@ -1,157 +1,120 @@
-//! Stores.
-ghost use Rattle.std.specs.Prelude.{◌≡◌, ◌<◌, ◌↔◌, IfErr, IfSome, OnOk};
-ghost use Rattle.hm_model.specs.Sight.{AreSet, Continues, IsSet, MayEnter};
-ghost use Rattle.hm_model.specs.declared.entry.Tried.TheVariants.{Stored};
-ghost use Rattle.hm_model.specs.Calls.{FindsChanged, IfChanged, MayStoreIf, StoresAll};
+//! Stores of one field.
+ghost use Rattle.std.specs.Prelude.{◌≡◌, ◌<◌, ◌↔◌, IfSome, IsErr, OnErr, OnOk};
+ghost use Rattle.hm_model.specs.declared.object.Field.TheVariants.{Number};
+ghost use Rattle.hm_model.specs.Sight.{Continues, IsSet, MayEnter};
+ghost use Rattle.hm_model.specs.Calls.{MayStore, Stores, refer_to};
 ghost use Rattle.hm_core.specs.Moving.{HasRoom};
-ghost use Rattle.hm_cells.specs.Calls.{IsWholeCopy, MayStore, MayWant, stored, turned, wanted};
+ghost use Rattle.hm_cells.specs.declared.want.Want.TheVariants.{Store};
+ghost use Rattle.hm_cells.specs.Calls.{MayChange, field_of, stored};
 ghost use Rattle.hm_cells.specs.Facts.{known_at, sight_of};
 ghost use Rattle.hm_ops.specs.Resting.{IsAtPlace, IsResting, Keeps};
-ghost use Rattle.hm_ops.specs.Storing.{Attempts, Steps, tried_at};
+ghost use Rattle.hm_ops.specs.Storing.{Steps};
 
-use crate::reading::read_stamp;
-use crate::writing::rewrite;
-use hm_cells::{Cells, Pass, Want, link_store, load_link};
-use hm_model::{Root, StoreIfRefused, Usage};
+use crate::copying::copy_changed;
+use crate::linking::{link, look};
+use hm_cells::{Cells, Pass, Want, WantField};
+use hm_model::{Full, Root, Usage};
 use hm_shape::Version;
 
-/// What an attempt at a conditional store came to.
-pub(crate) enum Attempt {
-    Goes(Version),
-    Stored,
-    Changed(u64),
-}
-
-/// Replaces all fields of the object that a place names, on the condition that it still has the given stamp. Where the
-/// caller's room is 0 it answers `Full`, and nothing changes: no step is taken. Where the object has another stamp it
-/// answers `Changed` with that.
-pub fn store_if<U: Usage>(
+/// Replaces number `i`, below 10, of the object that a place names. Where the caller's room is 0 it answers `Full`, and
+/// nothing changes: no step is taken.
+pub fn store_number<U: Usage>(
     cells: &Cells<U>,
     pass: &mut Pass<U>,
     at: Root,
-    stamp: u64,
-    refs: [Option<Root>; 4],
-    numbers: [u64; 10],
-) -> Result<(), StoreIfRefused>
+    i: u32,
+    value: u64,
+) -> Result<(), Full>
     requires rests { IsResting pass.old cells.now }
     requires at { IsSet (sight_of pass.old) at }
-    requires refs { AreSet (sight_of pass.old) refs }
-    requires allowed { MayStoreIf U.lawful U.allowed (sight_of pass.old) at stamp refs numbers }
-    ensures stored { OnOk result (StoresAll U.lawful U.allowed
-        (sight_of pass.old) (sight_of pass.new) at stamp refs numbers) }
-    ensures changed { IfErr result (λ e. IfChanged e (FindsChanged U.lawful U.allowed
-        (sight_of pass.old) (sight_of pass.new) at stamp refs numbers)) }
-    ensures stamp { IfErr result (λ e. IfChanged e (λ found. found < u64.MAX)) }
-    ensures full { (result ≡ Err StoreIfRefused.Full) ↔ ((sight_of pass.old).room ≡ 0) }
-    ensures unchanged { result ≡ Err StoreIfRefused.Full → pass.new ≡ pass.old }
+    requires field { i < 10 }
+    requires allowed { MayStore U.lawful U.allowed (sight_of pass.old) at (Number i value) }
+    ensures stored { OnOk result (Stores U.lawful U.allowed
+        (sight_of pass.old) (sight_of pass.new) at (Number i value)) }
+    ensures full { IsErr result ↔ ((sight_of pass.old).room ≡ 0) }
+    ensures unchanged { OnErr result (pass.new ≡ pass.old) }
+    ensures same { Continues U.lawful U.allowed (sight_of pass.old) (sight_of pass.new) }
+    ensures keeps { Keeps U.lawful U.allowed pass.new cells.now }
+{
+    store(cells, pass, at, WantField::Number { i, value })
+}
+
+/// Replaces reference `i`, below 4, of the object that a place names, by what another place names, or by none. Where
+/// the caller's room is 0 it answers `Full`, and nothing changes: no step is taken.
+pub fn store_ref<U: Usage>(
+    cells: &Cells<U>,
+    pass: &mut Pass<U>,
+    at: Root,
+    i: u32,
+    value: Option<Root>,
+) -> Result<(), Full>
+    requires rests { IsResting pass.old cells.now }
+    requires at { IsSet (sight_of pass.old) at }
+    requires field { i < 4 }
+    requires value { IfSome value (IsSet (sight_of pass.old)) }
+    requires allowed { MayStore U.lawful U.allowed (sight_of pass.old) at
+        (refer_to (sight_of pass.old) i value) }
+    ensures stored { OnOk result (Stores U.lawful U.allowed
+        (sight_of pass.old) (sight_of pass.new) at (refer_to (sight_of pass.old) i value)) }
+    ensures full { IsErr result ↔ ((sight_of pass.old).room ≡ 0) }
+    ensures unchanged { OnErr result (pass.new ≡ pass.old) }
+    ensures same { Continues U.lawful U.allowed (sight_of pass.old) (sight_of pass.new) }
+    ensures keeps { Keeps U.lawful U.allowed pass.new cells.now }
+{
+    store(cells, pass, at, WantField::Refer { i, value })
+}
+
+// Replaces one field of the object that a place names.
+fn store<U: Usage>(
+    cells: &Cells<U>,
+    pass: &mut Pass<U>,
+    at: Root,
+    field: WantField,
+) -> Result<(), Full>
+    requires rests { IsResting pass.old cells.now }
+    requires at { IsSet (sight_of pass.old) at }
+    requires field { MayChange pass.old field }
+    requires allowed { MayStore U.lawful U.allowed (sight_of pass.old) at (field_of pass.old field) }
+    ensures stored { OnOk result (Stores U.lawful U.allowed
+        (sight_of pass.old) (sight_of pass.new) at (field_of pass.old field)) }
+    ensures full { IsErr result ↔ ((sight_of pass.old).room ≡ 0) }
+    ensures unchanged { OnErr result (pass.new ≡ pass.old) }
     ensures same { Continues U.lawful U.allowed (sight_of pass.old) (sight_of pass.new) }
     ensures keeps { Keeps U.lawful U.allowed pass.new cells.now }
 {
     if pass.room() == 0 {
-        return Err(StoreIfRefused::Full);
+        return Err(Full);
     }
     let mut v = pass.root(at).unwrap();
-    loop {
-        match try_store(cells, pass, at, v, stamp, refs, numbers) {
-            Attempt::Goes(next) => v = next,
-            Attempt::Stored => return Ok(()),
-            Attempt::Changed(found) => return Err(StoreIfRefused::Changed { stamp: found }),
-        }
+    while let Some(next) = try_store(cells, pass, at, v, field) {
+        v = next;
     }
+    Ok(())
 }
 
-// An attempt at a conditional store, by a copy of the version at a root place, or by a look at its link where it has
-// another stamp.
+// An attempt at a store, on the version at a root place. Where there is another version behind it, before the copy is
+// written or after, that is answered.
 fn try_store<U: Usage>(
     cells: &Cells<U>,
     pass: &mut Pass<U>,
     at: Root,
     v: Version,
-    stamp: u64,
-    refs: [Option<Root>; 4],
-    numbers: [u64; 10],
-) -> Attempt
-    requires keeps { Keeps U.lawful U.allowed pass.old cells.now }
-    requires at { IsSet (sight_of pass.old) at }
-    requires place { IsAtPlace pass.old at.0 v }
-    requires room { HasRoom pass.old.part }
-    requires refs { AreSet (sight_of pass.old) refs }
-    requires allowed { MayEnter U.lawful U.allowed (sight_of pass.old)
-        (tried_at pass.old v stamp refs numbers Stored) }
-    ensures { Attempts U.lawful U.allowed cells.now pass.old at v stamp refs numbers result
-        pass.new }
-{
-    let want = Want::StoreIf {
-        stamp,
-        refs,
-        numbers,
-    };
-    let found = read_stamp(cells, pass, v);
-    if found != stamp {
-        return match look(cells, pass, at, v, want) {
-            Some(next) => Attempt::Goes(next),
-            None => Attempt::Changed(found),
-        };
-    }
-    rewrite(cells, pass, stamp + 1, refs, numbers);
-    match link(cells, pass, at, v, want) {
-        Some(next) => Attempt::Goes(next),
-        None => Attempt::Stored,
-    }
-}
-
-// Looks for the next version behind the one at a root place, which then names it. Where there is none, a conditional
-// store that finds another stamp is made.
-fn look<U: Usage>(
-    cells: &Cells<U>,
-    pass: &mut Pass<U>,
-    at: Root,
-    v: Version,
-    want: Want,
-) -> Option<Version>
-    requires keeps { Keeps U.lawful U.allowed pass.old cells.now }
-    requires at { IsSet (sight_of pass.old) at }
-    requires place { IsAtPlace pass.old at.0 v }
-    requires want { MayWant pass.old (known_at pass.old v) want }
-    ensures { IfSome (wanted pass.old (known_at pass.old v) want)
-        (λ e. Steps U.lawful U.allowed cells.now pass.old at v e 0 result pass.new) }
-{
-    let next = load_link(cells, pass, v, want, false)?;
-    pass.set_root(at, next);
-    pass.release(next);
-    Some(next)
-}
-
-// Hangs the caller's next version, a changed copy of the one at a root place, on that one. Where there is another
-// version behind it already, that is answered. The place names either from then on.
-fn link<U: Usage>(
-    cells: &Cells<U>,
-    pass: &mut Pass<U>,
-    at: Root,
-    v: Version,
-    want: Want,
+    field: WantField,
 ) -> Option<Version>
     requires keeps { Keeps U.lawful U.allowed pass.old cells.now }
     requires at { IsSet (sight_of pass.old) at }
     requires place { IsAtPlace pass.old at.0 v }
     requires room { HasRoom pass.old.part }
-    requires want { MayStore pass.old (known_at pass.old v) want }
-    requires whole { IsWholeCopy pass.old.part (turned pass.old (known_at pass.old v) want) }
+    requires field { MayChange pass.old field }
     requires allowed { MayEnter U.lawful U.allowed (sight_of pass.old)
-        (stored pass.old (known_at pass.old v) want) }
+        (stored pass.old (known_at pass.old v) (Store field)) }
     ensures { Steps U.lawful U.allowed cells.now pass.old at v
-        (stored pass.old (known_at pass.old v) want) 1 result pass.new }
+        (stored pass.old (known_at pass.old v) (Store field)) 1 result pass.new }
 {
-    match link_store(cells, pass, v, want) {
-        Ok(made) => {
-            pass.set_root(at, made);
-            pass.release(made);
-            None
-        }
-        Err(next) => {
-            pass.set_root(at, next);
-            pass.release(next);
-            Some(next)
-        }
+    // A copy is written only where no link was there a moment ago: most walks pass several versions.
+    if let Some(next) = look(cells, pass, at, v, Want::Nothing) {
+        return Some(next);
     }
+    copy_changed(cells, pass, v, field);
+    link(cells, pass, at, v, Want::Store { field })
 }

@@ -1,8 +1,8 @@
 //! Two passes on one thread: what one makes and the other sees of it, and how much room there is.
-ghost use Rattle.std.specs.Prelude.{◌≡◌, ◌<◌, IfOk};
+ghost use Rattle.std.specs.Prelude.{◌≡◌, ◌<◌, ◌≤◌, IfOk, IfSome};
 ghost use Rattle.hm_ops.specs.Resting.{IsResting};
 
-use crate::{create, fetch, fetch_number, fetch_ref, store_if};
+use crate::{create, fetch, fetch_number, fetch_ref, store_if, store_number, store_ref};
 use hm_cells::{Cells, Memory, Pass, meet, split};
 use hm_model::{AnyUsage, Full, Root, Snapshot, Start, StoreIfRefused};
 use hm_shape::Shape;
@@ -10,7 +10,7 @@ use std::alloc::Global;
 use std::process::Abort;
 use std::test::Fail;
 
-type Two = (Cells<AnyUsage>, Pass<AnyUsage>, Pass<AnyUsage>);
+pub(crate) type Two = (Cells<AnyUsage>, Pass<AnyUsage>, Pass<AnyUsage>);
 
 // Cells of two callers with four versions a region. Of the common object's references the last is given.
 fn two(rt: &impl Abort, alloc: Global) -> Result<Two, Memory>
@@ -20,6 +20,22 @@ fn two(rt: &impl Abort, alloc: Global) -> Result<Two, Memory>
     let start = Start {
         numbers: [5; 10],
         sides: [None, None, None, Some([8; 10])],
+    };
+    let (cells, mut passes) = Cells::make(alloc, shape, AnyUsage, start)?;
+    let b = passes.pop().expect(rt, "caller 1");
+    let a = passes.pop().expect(rt, "caller 0");
+    Ok((cells, a, b))
+}
+
+// Cells of two callers with so many versions a region. There is the common object alone, with all numbers 0.
+pub(crate) fn bare(rt: &impl Abort, alloc: Global, versions: u32) -> Result<Two, Memory>
+    requires { (4 ≤ versions) × (versions ≤ 65536) }
+    ensures { IfOk result (λ r. IsResting r.1 r.0 × IsResting r.2 r.0) }
+{
+    let shape = Shape::new(2, 4, versions).unwrap();
+    let start = Start {
+        numbers: [0; 10],
+        sides: [None; 4],
     };
     let (cells, mut passes) = Cells::make(alloc, shape, AnyUsage, start)?;
     let b = passes.pop().expect(rt, "caller 1");
@@ -77,6 +93,65 @@ fn replaces(
 {
     assert!(rt; pass.is_set(Root(0)));
     store_if(cells, pass, Root(0), stamp, [None; 4], [value; 10])
+}
+
+// A store of number `i` of the common object.
+fn stores(
+    rt: &impl Abort,
+    cells: &Cells<AnyUsage>,
+    pass: &mut Pass<AnyUsage>,
+    i: u32,
+    value: u64,
+) -> Result<(), Full>
+    requires rests { IsResting pass.old cells.now }
+    requires field { i < 10 }
+    ensures { IsResting pass.new cells.now }
+{
+    assert!(rt; pass.is_set(Root(0)));
+    store_number(cells, pass, Root(0), i, value)
+}
+
+// A store of reference `i` of the common object: what a place names, or none.
+fn refers(
+    rt: &impl Abort,
+    cells: &Cells<AnyUsage>,
+    pass: &mut Pass<AnyUsage>,
+    i: u32,
+    value: Option<Root>,
+) -> Result<(), Full>
+    requires rests { IsResting pass.old cells.now }
+    requires field { i < 4 }
+    requires place { IfSome value (λ r. r.0 < 256) }
+    ensures { IsResting pass.new cells.now }
+{
+    assert!(rt; pass.is_set(Root(0)));
+    if let Some(r) = value {
+        assert!(rt; pass.is_set(r));
+    }
+    store_ref(cells, pass, Root(0), i, value)
+}
+
+// Number 9 of the object that reference 0 of the common object names, if it names one.
+fn refers_to(rt: &impl Abort, cells: &Cells<AnyUsage>, pass: &mut Pass<AnyUsage>) -> Option<u64>
+    requires rests { IsResting pass.old cells.now }
+    ensures { IsResting pass.new cells.now }
+{
+    assert!(rt; pass.is_set(Root(0)));
+    if fetch_ref(cells, pass, Root(0), 0, Root(9)) {
+        assert!(rt; pass.is_set(Root(9)));
+        Some(fetch_number(cells, pass, Root(9), 9))
+    } else {
+        assert!(rt; !pass.is_set(Root(9)));
+        None
+    }
+}
+
+fn snapshot(stamp: u64, numbers: [u64; 10], set: [bool; 4]) -> Snapshot {
+    Snapshot {
+        stamp,
+        numbers,
+        set,
+    }
 }
 
 fn counts(pass: &Pass<AnyUsage>) -> (u64, u32, u32) {
@@ -148,5 +223,91 @@ fn a_store_that_finds_another_stamp_answers_it(rt: HostRuntime) -> Result<(), Fa
         replaces(&rt, &cells, &mut b, 0, 2),
         Err(StoreIfRefused::Full)
     );
+    Ok(())
+}
+
+#[test]
+fn a_reader_three_links_behind_finds_the_last_stamp(rt: HostRuntime) -> Result<(), Fail> {
+    let (cells, mut a, mut b) = bare(&rt, rt.alloc(), 4)?;
+    assert_eq!(rt; stores(&rt, &cells, &mut a, 0, 1), Ok(()));
+    assert_eq!(rt; stores(&rt, &cells, &mut a, 0, 2), Ok(()));
+    assert_eq!(rt; stores(&rt, &cells, &mut a, 0, 3), Ok(()));
+    assert_eq!(rt; stores(&rt, &cells, &mut a, 0, 4), Err(Full));
+    let last = snapshot(3, [3, 0, 0, 0, 0, 0, 0, 0, 0, 0], [false; 4]);
+    assert_eq!(rt; fetches(&rt, &cells, &mut b, 0), (last, 0, false));
+    assert_eq!(rt; (counts(&a), counts(&b)), ((0, 4, 0), (4, 0, 0)));
+    Ok(())
+}
+
+#[test]
+fn a_conditional_store_behind_a_store_answers_the_new_stamp(rt: HostRuntime) -> Result<(), Fail> {
+    let (cells, mut a, mut b) = bare(&rt, rt.alloc(), 4)?;
+    assert_eq!(rt; stores(&rt, &cells, &mut a, 0, 7), Ok(()));
+    assert_eq!(rt;
+        replaces(&rt, &cells, &mut b, 0, 9),
+        Err(StoreIfRefused::Changed { stamp: 1 })
+    );
+    let last = snapshot(1, [7, 0, 0, 0, 0, 0, 0, 0, 0, 0], [false; 4]);
+    assert_eq!(rt; fetches(&rt, &cells, &mut a, 0), (last, 0, false));
+    Ok(())
+}
+
+#[test]
+fn a_reference_is_named_unnamed_and_renamed(rt: HostRuntime) -> Result<(), Fail> {
+    let (cells, mut a, mut b) = bare(&rt, rt.alloc(), 16)?;
+    assert_eq!(rt; create(&cells, &mut a, Root(1), [None; 4], [7; 10]), Ok(()));
+    assert_eq!(rt; create(&cells, &mut a, Root(2), [None; 4], [8; 10]), Ok(()));
+    assert_eq!(rt; refers_to(&rt, &cells, &mut b), None);
+    assert_eq!(rt; refers(&rt, &cells, &mut a, 0, Some(Root(1))), Ok(()));
+    assert_eq!(rt; refers_to(&rt, &cells, &mut b), Some(7));
+    assert_eq!(rt; refers(&rt, &cells, &mut a, 0, None), Ok(()));
+    assert_eq!(rt; refers_to(&rt, &cells, &mut b), None);
+    assert_eq!(rt; refers(&rt, &cells, &mut a, 0, Some(Root(2))), Ok(()));
+    assert_eq!(rt; refers_to(&rt, &cells, &mut b), Some(8));
+    assert_eq!(rt; refers(&rt, &cells, &mut a, 0, Some(Root(0))), Ok(()));
+    assert_eq!(rt; refers_to(&rt, &cells, &mut b), Some(0));
+    assert_eq!(rt; stores(&rt, &cells, &mut b, 9, 6), Ok(()));
+    assert_eq!(rt; refers_to(&rt, &cells, &mut a), Some(6));
+    Ok(())
+}
+
+// A store by caller 0 of each field in turn, each seen by caller 1 with all other fields as they were.
+#[test]
+fn a_store_changes_its_field_alone(rt: HostRuntime) -> Result<(), Fail> {
+    let (cells, mut a, mut b) = bare(&rt, rt.alloc(), 64)?;
+    let mut numbers = [0; 10];
+    for i in 0..10u32 {
+        let value = u64::from(i) + 100;
+        assert_eq!(rt; stores(&rt, &cells, &mut a, i, value), Ok(()));
+        numbers[i as usize] = value;
+        let now = snapshot(u64::from(i) + 1, numbers, [false; 4]);
+        let nine = if i == 9 { 109 } else { 0 };
+        assert_eq!(rt;
+            fetches(&rt, &cells, &mut b, 0),
+            (now, nine, false),
+            "number {i}"
+        );
+    }
+    let mut set = [false; 4];
+    for i in 0..4u32 {
+        assert_eq!(rt; refers(&rt, &cells, &mut a, i, Some(Root(0))), Ok(()));
+        set[i as usize] = true;
+        let now = snapshot(u64::from(i) + 11, numbers, set);
+        assert_eq!(rt;
+            fetches(&rt, &cells, &mut b, 0),
+            (now, 109, i == 3),
+            "reference {i}"
+        );
+    }
+    for i in 0..4u32 {
+        assert_eq!(rt; refers(&rt, &cells, &mut a, i, None), Ok(()));
+        set[i as usize] = false;
+        let now = snapshot(u64::from(i) + 15, numbers, set);
+        assert_eq!(rt;
+            fetches(&rt, &cells, &mut b, 0),
+            (now, 109, i < 3),
+            "reference {i}"
+        );
+    }
     Ok(())
 }

@@ -1,10 +1,11 @@
 //! Walks along links.
 ghost use Rattle.hm_model.specs.Sight.{IsSet};
 ghost use Rattle.hm_cells.specs.Facts.{sight_of};
-ghost use Rattle.hm_ops.specs.Resting.{IsAtPlace, IsResting, Keeps};
-ghost use Rattle.hm_ops.specs.Walking.{Follows, Walks};
+ghost use Rattle.hm_ops.specs.Resting.{IsResting};
+ghost use Rattle.hm_ops.specs.Walking.{Walks};
 
-use hm_cells::{Cells, Pass, Want, load_link};
+use crate::linking::look;
+use hm_cells::{Cells, Pass, Want};
 use hm_model::{Root, Usage};
 use hm_shape::Version;
 
@@ -15,27 +16,8 @@ pub(crate) fn walk<U: Usage>(cells: &Cells<U>, pass: &mut Pass<U>, from: Root) -
     ensures { Walks U.lawful U.allowed cells.now pass.old from result pass.new }
 {
     let mut at = pass.root(from).unwrap();
-    while let Some(next) = follow(cells, pass, from, at) {
+    while let Some(next) = look(cells, pass, from, at, Want::Fetch) {
         at = next;
     }
     at
-}
-
-// Follows the link of the version at a root place. The place then names the version found. Where there is none,
-// the object is fetched.
-fn follow<U: Usage>(
-    cells: &Cells<U>,
-    pass: &mut Pass<U>,
-    from: Root,
-    at: Version,
-) -> Option<Version>
-    requires keeps { Keeps U.lawful U.allowed pass.old cells.now }
-    requires from { IsSet (sight_of pass.old) from }
-    requires place { IsAtPlace pass.old from.0 at }
-    ensures { Follows U.lawful U.allowed cells.now pass.old from at result pass.new }
-{
-    let next = load_link(cells, pass, at, Want::Fetch, false)?;
-    pass.set_root(from, next);
-    pass.release(next);
-    Some(next)
 }

@@ -4,9 +4,9 @@ ghost use Rattle.hm_shape.specs.declared.version.TheConstants.{VERSION_WORDS};
 ghost use Rattle.hm_model.specs.Sight.{AreSet, names_of};
 ghost use Rattle.hm_core.specs.Moving.{HasRoom};
 ghost use Rattle.hm_cells.specs.Facts.{sight_of};
-ghost use Rattle.hm_ops.specs.Resting.{Keeps};
+ghost use Rattle.hm_ops.specs.Resting.{Keeps, Works};
 ghost use Rattle.hm_ops.specs.Storing.{Copies};
-ghost use Rattle.hm_ops.specs.Writing.{Drafts, Lasts, Writes, reference_word};
+ghost use Rattle.hm_ops.specs.Writing.{Drafts, Lasts, NamesKept, Writes, name_by, reference_word};
 
 use hm_cells::{Cells, Pass, store_own};
 use hm_model::{Root, Usage};
@@ -31,7 +31,33 @@ pub(crate) fn draft<U: Usage>(
     write(cells, pass, FIRST_NUMBER, &numbers);
 }
 
-/// Writes the caller's next version as a copy with a link of 0, this stamp, and these fields.
+/// Writes the caller's next version as a changed copy of one with this stamp, which is raised, and these words of
+/// references and numbers. Its link is 0.
+pub(crate) fn write_copy<U: Usage>(
+    cells: &Cells<U>,
+    pass: &mut Pass<U>,
+    stamp: u64,
+    words: [u64; 4],
+    numbers: [u64; 10],
+)
+    requires works { Works U.lawful U.allowed pass.old cells.now }
+    requires room { HasRoom pass.old.part }
+    requires stamp { stamp < u64.MAX }
+    requires kept { All (NamesKept pass.old) words }
+    ensures copies { Copies pass.old record {
+      stamp = stamp + 1;
+      refs = map (name_by pass.old) words;
+      numbers = numbers;
+    } pass.new }
+    ensures works { Works U.lawful U.allowed pass.new cells.now }
+{
+    write(cells, pass, LINK, &[0, stamp + 1]);
+    write(cells, pass, FIRST_REFERENCE, &words);
+    write(cells, pass, FIRST_NUMBER, &numbers);
+}
+
+/// Writes the caller's next version as a changed copy of one with this stamp, which is raised, that names what the
+/// given places name.
 pub(crate) fn rewrite<U: Usage>(
     cells: &Cells<U>,
     pass: &mut Pass<U>,
@@ -41,18 +67,17 @@ pub(crate) fn rewrite<U: Usage>(
 )
     requires keeps { Keeps U.lawful U.allowed pass.old cells.now }
     requires room { HasRoom pass.old.part }
+    requires stamp { stamp < u64.MAX }
     requires refs { AreSet (sight_of pass.old) refs }
     ensures copies { Copies pass.old record {
-      stamp = stamp;
+      stamp = stamp + 1;
       refs = names_of (sight_of pass.old) refs;
       numbers = numbers;
     } pass.new }
     ensures keeps { Keeps U.lawful U.allowed pass.new cells.now }
 {
     let words = reference_words(pass, refs);
-    write(cells, pass, LINK, &[0, stamp]);
-    write(cells, pass, FIRST_REFERENCE, &words);
-    write(cells, pass, FIRST_NUMBER, &numbers);
+    write_copy(cells, pass, stamp, words, numbers);
 }
 
 // The words of references to what the given places name.
@@ -69,8 +94,8 @@ fn reference_words<U: Usage>(pass: &Pass<U>, refs: [Option<Root>; 4]) -> [u64; 4
     ]
 }
 
-// The word of a reference to what a place names, and 0 where none is given.
-fn reference_word<U: Usage>(pass: &Pass<U>, r: Option<Root>) -> u64
+/// The word of a reference to what a place names, and 0 where none is given.
+pub(crate) fn reference_word<U: Usage>(pass: &Pass<U>, r: Option<Root>) -> u64
     requires { IfSome r (λ place. place.0 < 256) }
     ensures { result ≡ reference_word pass.now.roots r }
 {
@@ -85,13 +110,13 @@ fn reference_word<U: Usage>(pass: &Pass<U>, r: Option<Root>) -> u64
 
 // Writes these words of the caller's next version, from word `first` on.
 fn write<U: Usage>(cells: &Cells<U>, pass: &mut Pass<U>, first: u32, words: &[u64])
-    requires keeps { Keeps U.lawful U.allowed pass.old cells.now }
+    requires works { Works U.lawful U.allowed pass.old cells.now }
     requires room { HasRoom pass.old.part }
     requires place { first + length words.now ≤ VERSION_WORDS }
     requires lasting { (i : ℕ) → i < length words.now
-        → Lasts pass.old.roots (first + i) (slice_index words.now i) }
+        → Lasts pass.old (first + i) (slice_index words.now i) }
     ensures wrote { Writes pass.old first words.now (length words.now) pass.new }
-    ensures keeps { Keeps U.lawful U.allowed pass.new cells.now }
+    ensures works { Works U.lawful U.allowed pass.new cells.now }
 {
     for i in 0..words.len() {
         store_own(cells, pass, first + i as u32, words[i]);

@@ -1,11 +1,19 @@
-use Rattle.std.proofs.Common.{◌≡◌, length, rules}
-use Rattle.hm_ops.proofs.Drafts.{words_last, drafts_all}
+use Rattle.std.proofs.Common.{◌≡◌, ◌+◌, ◌∙◌, length, rules}
+use Rattle.hm_ops.proofs.Drafts.{drafts_all}
+use Rattle.hm_ops.proofs.Quiet.{rest_works, work_rests}
+use Rattle.hm_ops.proofs.Writings.{places_kept, words_last}
 use Rattle.hm_ops.proofs.writing.draft.Goals as goal
+
+pub write-requires-clause-works : goal.write-requires-clause-works
+write-requires-clause-works g c =
+    rest_works g.U.Usage.lawful g.U.Usage.allowed c.args.pass.now c.args.cells.now c.requires.keeps
 
 pub write-requires-2-clause-lasting : goal.write-requires-2-clause-lasting
 write-requires-2-clause-lasting g c =
-    λ i low. words_last c.args.pass.now.roots c.write.new.pass.roots 2 c.args.refs
-    c.reference_words-words.result c.write.ensures.wrote.roots c.reference_words-words.ensures i
+    let words = c.reference_words-words in
+    let w = c.write.ensures.wrote in
+    λ i low. words_last c.args.pass.now c.write.new.pass words.result w.roots w.hand
+    (places_kept c.args.pass.now c.args.refs words.result words.ensures) (2 + i) i low
 
 pub returns-clause-drafts : goal.returns-clause-drafts
 returns-clause-drafts g c =
@@ -14,3 +22,9 @@ returns-clause-drafts g c =
     drafts_all c.args.pass.now c.write.new.pass c.write-2.new.pass c.write-3.new.pass c.args.refs
     c.args.numbers c.reference_words-words.result four ten c.reference_words-words.ensures
     c.write.ensures.wrote c.write-2.ensures.wrote c.write-3.ensures.wrote
+
+pub returns-clause-keeps : goal.returns-clause-keeps
+returns-clause-keeps g c =
+    let hand = c.write-3.ensures.wrote.hand ∙ (c.write-2.ensures.wrote.hand ∙ c.write.ensures.wrote.hand) in
+    work_rests g.U.Usage.lawful g.U.Usage.allowed c.write-3.new.pass c.args.cells.now
+    c.write-3.ensures.works (hand ∙ c.requires.keeps.resting.empty)

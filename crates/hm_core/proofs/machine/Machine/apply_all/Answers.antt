@@ -1,6 +1,7 @@
 use Rattle.std.proofs.Common.{refl, ◌∙◌}
 use Rattle.hm_core.specs.Safe.{here}
 use Rattle.hm_core.specs.Running.{core_of}
+use Rattle.hm_core.proofs.Ends.{chains_end}
 use Rattle.hm_core.proofs.Leading.{leads_on}
 use Rattle.hm_core.proofs.machine.Machine.apply_all.Goals as goal
 
@@ -13,3 +14,8 @@ loop-step-preserved c = record {
       c.loop-step.invariant.led c.apply-answer.ensures.leads;
   site = c.apply-answer.ensures.site ∙ c.loop-step.invariant.site;
 }
+
+pub returns-clause-ends : goal.returns-clause-ends
+returns-clause-ends c =
+    let safe = c.store-store.ensures.safe in
+    chains_end c.loop-step.self.shape (core_of c.loop-step.self).heap safe.chains safe.ranks

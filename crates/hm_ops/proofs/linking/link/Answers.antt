@@ -3,7 +3,7 @@ use Rattle.hm_shape.specs.declared.version.Version.{Version}
 use Rattle.hm_cells.specs.Facts.{Facts}
 use Rattle.hm_ops.proofs.Walks.{found_held, found_taken, link_goes, placed_look}
 use Rattle.hm_ops.proofs.Stores.{link_ends, made_held}
-use Rattle.hm_ops.proofs.storing.link.Goals as goal
+use Rattle.hm_ops.proofs.linking.link.Goals as goal
 
 pub link_store-requires-clause-look : goal.link_store-requires-clause-look
 link_store-requires-clause-look g c =

@@ -2,7 +2,7 @@ use Rattle.std.proofs.Common.{◌≡◌}
 use Rattle.hm_cells.specs.Facts.{sight_of}
 use Rattle.hm_ops.specs.Resting.{IsAtPlace, Keeps}
 use Rattle.hm_ops.specs.Walking.{ahead}
-use Rattle.hm_ops.proofs.storing.store_if.Given as goal
+use Rattle.hm_ops.proofs.storing.store.Given as goal
 
 abbrev pub invariant-loop-next : goal.invariant-loop-next
 invariant-loop-next g l = record {

@@ -1,12 +1,10 @@
-use Rattle.std.proofs.Common.{Option, IfSome, sym, subst, ap, Contains, List}
+use Rattle.std.proofs.Common.{Option, sym, subst, ap, Contains, List}
 use Rattle.hm_shape.specs.declared.version.Version.{Version}
 use Rattle.hm_cells.specs.Calls.{wanted}
 use Rattle.hm_cells.specs.Facts.{Facts, known_at}
-use Rattle.hm_ops.specs.Storing.{Steps}
-use Rattle.hm_ops.specs.Walking.{GoesOn}
-use Rattle.hm_ops.proofs.Walks.{next_held, next_taken, placed_look, walk_goes}
-use Rattle.hm_ops.proofs.Stores.{look_ends_all, whatever}
-use Rattle.hm_ops.proofs.storing.look.Goals as goal
+use Rattle.hm_ops.specs.Walking.{Looks}
+use Rattle.hm_ops.proofs.Walks.{looks_last, next_held, next_taken, placed_look, walk_goes}
+use Rattle.hm_ops.proofs.linking.look.Goals as goal
 
 pub load_link-requires-clause-look : goal.load_link-requires-clause-look
 load_link-requires-clause-look g c =
@@ -16,11 +14,10 @@ load_link-requires-clause-look g c =
 pub returns-in_err-next : goal.returns-in_err-next
 returns-in_err-next g c =
     let want = wanted c.args.pass.now (known_at c.args.pass.now c.args.v) c.args.want in
-    subst (λ (o : Option Version). IfSome want
-    (λ e. Steps g.U.Usage.lawful g.U.Usage.allowed c.args.cells.now
-    c.args.pass.now c.args.at c.args.v e 0 o c.load_link.new.pass))
+    subst (λ (o : Option Version). Looks g.U.Usage.lawful g.U.Usage.allowed c.args.cells.now
+    c.args.pass.now c.args.at c.args.v want o c.load_link.new.pass)
     (sym c.from_residual.ensures)
-    (look_ends_all g.U.Usage.lawful g.U.Usage.allowed c.args.cells.now c.args.pass.now c.load_link.new.pass
+    (looks_last g.U.Usage.lawful g.U.Usage.allowed c.args.cells.now c.args.pass.now c.load_link.new.pass
     c.args.at c.args.v c.requires.keeps c.requires.place c.load_link.ensures.sound want
     c.in_err-next.ensures.took)
 
@@ -40,9 +37,7 @@ release-requires g c =
 
 pub returns : goal.returns
 returns g c =
-    whatever (GoesOn g.U.Usage.lawful g.U.Usage.allowed c.args.cells.now c.args.pass.now c.args.at c.args.v c.in_ok-next.next c.release.new.self)
-    (wanted c.args.pass.now (known_at c.args.pass.now c.args.v) c.args.want)
-    (walk_goes g.U.Usage.lawful g.U.Usage.allowed c.args.cells.now c.args.pass.now c.load_link.new.pass
+    walk_goes g.U.Usage.lawful g.U.Usage.allowed c.args.cells.now c.args.pass.now c.load_link.new.pass
     c.args.at c.args.v c.requires.keeps c.requires.place c.load_link.ensures.sound _
     c.in_ok-next.next c.in_ok-next.ensures.took c.set_root.new.self c.release.new.self
-    c.set_root.ensures.pass c.release.ensures)
+    c.set_root.ensures.pass c.release.ensures

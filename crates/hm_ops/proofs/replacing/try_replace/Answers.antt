@@ -1,6 +1,6 @@
 use Rattle.std.proofs.Common.{◌≡◌, sym, ◌∙◌, rules}
-use Rattle.hm_ops.proofs.Replaces.{copy_may, copy_whole}
-use Rattle.hm_ops.proofs.storing.try_store.Goals as goal
+use Rattle.hm_ops.proofs.Replaces.{copy_ends, copy_may, copy_whole}
+use Rattle.hm_ops.proofs.replacing.try_replace.Goals as goal
 
 pub link-requires-clause-whole : goal.link-requires-clause-whole
 link-requires-clause-whole g c =
@@ -16,3 +16,10 @@ link-requires-clause-allowed g c =
     copy_may g.U.Usage.lawful g.U.Usage.allowed c.args.cells.now c.args.pass.now r.new.pass
     c.rewrite.new.pass c.args.v c.args.stamp c.args.refs c.args.numbers r.ensures.reads
     c.rewrite.ensures.copies (c.args.at.0, c.requires.place) c.requires.allowed
+
+pub returns-in-None-link : goal.returns-in-None-link
+returns-in-None-link g c =
+    let r = c.read_stamp-found in
+    copy_ends g.U.Usage.lawful g.U.Usage.allowed c.args.cells.now c.args.pass.now r.new.pass
+    c.rewrite.new.pass c.args.v c.args.stamp c.args.refs c.args.numbers r.ensures.reads
+    c.rewrite.ensures.copies (c.args.at.0, c.requires.place) c.link.new.pass c.in-None-link.ensures

@@ -1,0 +1,76 @@
+-- Chains end, since ranks rise along links.
+use Rattle.std.proofs.Common.{◌≡◌, ◌≤◌, ◌<◌, ◌+◌, ℕ, zero, suc, Some, refl, sym, ap, ◌∙◌, subst, arith}
+use Rattle.hm_shape.specs.declared.shape.Shape.{Shape}
+use Rattle.hm_shape.specs.Versions.{version_count}
+use Rattle.hm_shape.specs.Words.{naming_word}
+use Rattle.hm_core.specs.declared.part.Known.{Known}
+use Rattle.hm_core.specs.Chain.{Heap, IsPublished, link_of, row_count, total}
+use Rattle.hm_core.specs.Safe.{IsForward, KeepsChains, KeepsRanks}
+use Rattle.hm_core.specs.Ends.{ChainsEnd, EndsAfter, Links}
+use Rattle.hm_core.proofs.Placed.{total_small}
+
+module _ (s : Shape) (h : Heap) (chains : KeepsChains s h) (ranks : KeepsRanks s h) where
+  -- the published version that a link names has a greater rank
+  rises : (k next : Known) → IsPublished h.index k → IsPublished h.index next
+      → link_of s h.words k ≡ naming_word (Some next.version) → k.rank < next.rank
+  rises k next is there link = go (link_of s h.words k) (chains.links k is) link
+    where
+      go : (w : ℕ) → IsForward h.index k w → w ≡ naming_word (Some next.version) → k.rank < next.rank
+      go zero f e = absurd (omega arith)
+      go (suc v) f e =
+          let number : f.0.version.0 ≡ next.version.0 = let n = f.1 in omega arith in
+          let both : Some f.0 ≡ Some next =
+          sym f.2.published ∙ (ap h.index number ∙ there) in
+          let same : f.0 ≡ next = cc in
+          subst (λ (m : Known). k.rank < m.rank) same f.2.rank
+
+  -- so a version that n links lead to has a rank greater by n at least
+  climbs : (n : ℕ) (k last : Known) → IsPublished h.index k → Links s h n k last
+      → IsPublished h.index last × (k.rank + n ≤ last.rank)
+  climbs zero k last is l = (
+    subst (IsPublished h.index) l is,
+    let e : k.rank ≡ last.rank = ap (λ (m : Known). m.rank) l in omega arith,
+  )
+  climbs (suc n) k last is l =
+      let rest = climbs n l.0 last l.1 l.3 in
+      let step = rises k l.0 is l.1 l.2 in
+      (rest.0, let far = rest.1 in omega arith)
+
+  all_places : total h.used (row_count s) ≤ version_count s
+  all_places = total_small h.used (row_count s) s.versions ranks.rows
+
+  -- a chain ends where no rank is left
+  ends_from : (left : ℕ) (k : Known) → IsPublished h.index k → version_count s < k.rank + left
+      → (n : ℕ) × EndsAfter s h k n
+  ends_from zero k is low =
+      absurd (let a = ranks.ranks k is in let b = all_places in omega arith)
+  ends_from (suc left) k is low =
+      go (ends_from left) (link_of s h.words k) refl (chains.links k is)
+    where
+      go : ((m : Known) → IsPublished h.index m → version_count s < m.rank + left
+          → (n : ℕ) × EndsAfter s h m n)
+          → (w : ℕ) → link_of s h.words k ≡ w → IsForward h.index k w → (n : ℕ) × EndsAfter s h k n
+      go rest zero e f = (0, record { last = k; links = refl; none = e })
+      go rest (suc v) e f =
+          let later = f.2.rank in
+          let end = rest f.0 f.2.published (omega arith) in
+          let link : link_of s h.words k ≡ naming_word (Some f.0.version) =
+          e ∙ (let n = f.1 in omega arith) in (
+            suc end.0,
+            record {
+              last = end.1.last;
+              links = (f.0, f.2.published, link, end.1.links);
+              none = end.1.none;
+            },
+          )
+
+  pub chains_end : ChainsEnd s h 0
+  chains_end = record {
+    ends = λ k is. ends_from (version_count s + 1) k is (omega arith);
+    few = λ k n is end.
+        let up = climbs n k end.last is end.links in
+        let low = ranks.ranks end.last up.0 in
+        let far = up.1 in
+        let all = all_places in
+        omega arith;
+  }

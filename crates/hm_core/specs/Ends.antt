@@ -1,0 +1,30 @@
+-- The ends of chains, and how many links lead there.
+use Rattle.std.specs.Prelude.{◌≡◌, ℕ, zero, suc, ◌+◌, ◌*◌, ◌≤◌, Some}
+use Rattle.hm_shape.specs.declared.shape.Shape.{Shape}
+use Rattle.hm_shape.specs.Versions.{version_count}
+use Rattle.hm_shape.specs.Words.{naming_word}
+use Rattle.hm_core.specs.declared.part.Known.{Known}
+use Rattle.hm_core.specs.Chain.{Heap, IsPublished, link_of}
+
+-- n links lead from one version to another: none to itself, and each to the published version that it names
+abbrev pub Links : Shape → Heap → ℕ → Known → Known → Type 0
+Links s h zero k last = k ≡ last
+Links s h (suc n) k last =
+    (next : Known) × IsPublished h.index next
+    × (link_of s h.words k ≡ naming_word (Some next.version)) × Links s h n next last
+
+-- a chain ends after n links where they lead to a version without a link
+pub record EndsAfter (s : Shape) (h : Heap) (k : Known) (n : ℕ) : Type 0 where
+  pub last : Known
+  pub links : Links s h n k last
+  pub none : link_of s h.words last ≡ 0
+
+-- once so many cycles are done, each version was given out once more often than that at most
+abbrev pub most_links : Shape → ℕ → ℕ
+most_links s done = version_count s * (done + 1)
+
+-- behind each published version its chain ends, after so many links at most
+pub record ChainsEnd (s : Shape) (h : Heap) (done : ℕ) : Type 0 where
+  pub ends : (k : Known) → IsPublished h.index k → (n : ℕ) × EndsAfter s h k n
+  pub few : (k : Known) (n : ℕ) → IsPublished h.index k → EndsAfter s h k n
+      → n ≤ most_links s done

@@ -1,0 +1,110 @@
+//! Changed copies of a version.
+ghost use Rattle.std.specs.Prelude.{◌≡◌, ◌<◌, [], length, map};
+ghost use Rattle.hm_shape.specs.Words.{naming_word};
+ghost use Rattle.hm_core.specs.Moving.{HasRoom};
+ghost use Rattle.hm_cells.specs.Calls.{MayChange};
+ghost use Rattle.hm_cells.specs.Facts.{with_hand};
+ghost use Rattle.hm_ops.specs.Resting.{IsRooted, Keeps, Works, most_working};
+ghost use Rattle.hm_ops.specs.Copying.{CopiesChanged, Takes, TakesAll, given};
+
+use crate::reading::{read_numbers, read_stamp};
+use crate::writing::{reference_word, write_copy};
+use hm_cells::{Cells, Pass, WantField, load_field};
+use hm_model::Usage;
+use hm_shape::{FIRST_REFERENCE, Version};
+
+/// Writes the caller's next version as a copy of a version at a root place, with one field changed and the stamp
+/// raised.
+///
+/// What the references name stays in hand until the copy is written, since a word counts as written only while what it
+/// names is held.
+pub(crate) fn copy_changed<U: Usage>(
+    cells: &Cells<U>,
+    pass: &mut Pass<U>,
+    v: Version,
+    field: WantField,
+)
+    requires keeps { Keeps U.lawful U.allowed pass.old cells.now }
+    requires rooted { IsRooted pass.old v }
+    requires room { HasRoom pass.old.part }
+    requires field { MayChange pass.old field }
+    ensures copies { CopiesChanged pass.old v field pass.new }
+    ensures keeps { Keeps U.lawful U.allowed pass.new cells.now }
+{
+    let stamp = read_stamp(cells, pass, v);
+    let mut numbers = read_numbers(cells, pass, v);
+    let named = take_references(cells, pass, v);
+    let mut words = words_of(named);
+    match field {
+        WantField::Number { i, value } => numbers[i as usize] = value,
+        WantField::Refer { i, value } => words[i as usize] = reference_word(pass, value),
+    }
+    write_copy(cells, pass, stamp, words, numbers);
+    release_all(pass, named);
+}
+
+// Takes what the references of a version name into the hand.
+fn take_references<U: Usage>(
+    cells: &Cells<U>,
+    pass: &mut Pass<U>,
+    v: Version,
+) -> [Option<Version>; 4]
+    requires keeps { Keeps U.lawful U.allowed pass.old cells.now }
+    requires rooted { IsRooted pass.old v }
+    ensures takes { TakesAll U.lawful U.allowed cells.now pass.old v result pass.new }
+{
+    [
+        take_reference(cells, pass, v, 0),
+        take_reference(cells, pass, v, 1),
+        take_reference(cells, pass, v, 2),
+        take_reference(cells, pass, v, 3),
+    ]
+}
+
+// Takes what reference `i` of a version names into the hand.
+fn take_reference<U: Usage>(
+    cells: &Cells<U>,
+    pass: &mut Pass<U>,
+    v: Version,
+    i: u32,
+) -> Option<Version>
+    requires works { Works U.lawful U.allowed pass.old cells.now }
+    requires hand { length pass.old.hand < most_working }
+    requires rooted { IsRooted pass.old v }
+    requires reference { i < 4 }
+    ensures takes { Takes pass.old v i result pass.new }
+    ensures works { Works U.lawful U.allowed pass.new cells.now }
+{
+    let word = load_field(cells, pass, v, FIRST_REFERENCE + i, false);
+    Version::named(word)
+}
+
+// The words that name these versions.
+fn words_of(named: [Option<Version>; 4]) -> [u64; 4]
+    ensures { result ≡ map naming_word named }
+{
+    let [a, b, c, d] = named;
+    [word_of(a), word_of(b), word_of(c), word_of(d)]
+}
+
+// The word that names a version, or none.
+fn word_of(v: Option<Version>) -> u64
+    ensures { result ≡ naming_word v }
+{
+    match v {
+        Some(v) => v.name(),
+        None => 0,
+    }
+}
+
+// Releases all that is in hand: what the references name.
+fn release_all<U: Usage>(pass: &mut Pass<U>, references: [Option<Version>; 4])
+    requires { pass.old.hand ≡ given references }
+    ensures { pass.new ≡ with_hand pass.old [] }
+{
+    for named in references {
+        if let Some(v) = named {
+            pass.release(v);
+        }
+    }
+}
