@@ -13,6 +13,7 @@ pub mod Seats
 pub mod Fresh
 pub mod Safe
 pub mod Ends
+pub mod Played
 pub mod Stepping
 pub mod Moments
 pub mod HeldFacts

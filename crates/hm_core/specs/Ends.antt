@@ -6,7 +6,7 @@ use Rattle.hm_shape.specs.Words.{naming_word}
 use Rattle.hm_core.specs.declared.part.Known.{Known}
 use Rattle.hm_core.specs.Chain.{Heap, IsPublished, link_of}
 
--- n links lead from one version to another: none to itself, and each to the published version that it names
+-- n links lead from one version to another, each to the published version that it names
 abbrev pub Links : Shape → Heap → ℕ → Known → Known → Type 0
 Links s h zero k last = k ≡ last
 Links s h (suc n) k last =

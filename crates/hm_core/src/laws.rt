@@ -1,31 +1,59 @@
 //! What holds after every list of steps.
-ghost use Rattle.std.specs.Prelude.{◌≡◌, ◌≤◌, IfOk};
+ghost use Rattle.std.specs.Prelude.{◌≡◌, ◌≤◌, ℕ, IfOk, OnErr, OnOk, take};
 ghost use Rattle.hm_model.specs.History.{starting_count};
 ghost use Rattle.hm_core.specs.Running.{any_store, any_entry, core_of, site_of};
 ghost use Rattle.hm_core.specs.Ends.{ChainsEnd};
+ghost use Rattle.hm_core.specs.Playing.{Answers, Plays, PlaysFresh};
 ghost use Rattle.hm_core.specs.Safe.{ComesFromFresh, IsSafe, Leads};
 
 use crate::machine::{Machine, Memory};
-use crate::step::Step;
+use crate::step::{Step, StepRefused};
 use hm_model::Start;
 use hm_shape::Shape;
 use std::alloc::Global;
 
 impl Machine {
-    /// Takes steps one after another. A step that is refused changes nothing.
+    /// Takes steps one after another. A step that is refused changes nothing, and the next one is taken. Where memory
+    /// runs out, the steps before that one were taken.
     ///
-    /// From each published version its chain ends after so many links as the heap has versions, at most: no region is
-    /// used again yet, so no cycle is done.
-    pub fn apply_all(&mut self, steps: &[Step])
+    /// Behind each published version its chain ends, after at most so many links as the heap has versions: until
+    /// regions are used again, no cycle is done.
+    pub fn apply_all(&mut self, steps: &[Step]) -> Result<(), Memory>
+        ensures played { OnOk result (Plays self.old steps.now self.new) }
+        ensures memory { OnErr result ((i : ℕ) × Plays self.old (take i steps.now) self.new) }
         ensures leads { Leads any_store any_entry (core_of self.old) (core_of self.new) }
         ensures safe { IsSafe (site_of self.new) (core_of self.new) }
         ensures ends { ChainsEnd self.new.shape (core_of self.new).heap 0 }
         ensures site { site_of self.new ≡ site_of self.old }
     {
-        for step in steps {
-            let _answer = self.apply(step);
-        }
+        let played = self.play(steps);
         let _store = self.store();
+        played
+    }
+
+    fn play(&mut self, steps: &[Step]) -> Result<(), Memory>
+        ensures played { OnOk result (Plays self.old steps.now self.new) }
+        ensures memory { OnErr result ((i : ℕ) × Plays self.old (take i steps.now) self.new) }
+        ensures leads { Leads any_store any_entry (core_of self.old) (core_of self.new) }
+        ensures site { site_of self.new ≡ site_of self.old }
+    {
+        for step in steps {
+            self.answer(step)?;
+        }
+        Ok(())
+    }
+
+    // Takes or refuses one step.
+    fn answer(&mut self, step: &Step) -> Result<(), Memory>
+        ensures answered { OnOk result (Answers self.old step.now self.new) }
+        ensures memory { OnErr result (self.new ≡ self.old) }
+        ensures leads { Leads any_store any_entry (core_of self.old) (core_of self.new) }
+        ensures site { site_of self.new ≡ site_of self.old }
+    {
+        match self.apply(step) {
+            Err(StepRefused::Memory) => Err(Memory),
+            _ => Ok(()),
+        }
     }
 }
 
@@ -37,6 +65,7 @@ pub fn machine_after(
     steps: &[Step],
 ) -> Result<Machine, Memory>
     requires { starting_count start ≤ shape.versions }
+    ensures played { IfOk result (PlaysFresh steps.now) }
     ensures safe { IfOk result (λ machine. IsSafe (site_of machine) (core_of machine)) }
     ensures ends { IfOk result (λ machine. ChainsEnd machine.shape (core_of machine).heap 0) }
     ensures led { IfOk result (λ machine.
@@ -45,6 +74,6 @@ pub fn machine_after(
     ensures start { IfOk result (λ machine. machine.start ≡ start) }
 {
     let mut machine = Machine::new(alloc, shape, start)?;
-    machine.apply_all(steps);
+    machine.apply_all(steps)?;
     Ok(machine)
 }

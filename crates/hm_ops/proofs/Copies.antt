@@ -19,7 +19,7 @@ use Rattle.hm_ops.specs.Resting.{IsRooted}
 use Rattle.hm_ops.specs.Walking.{Reads, contents_at}
 use Rattle.hm_ops.specs.Writing.{NamesKept, Roots, name_by, reference_word}
 use Rattle.hm_ops.specs.Storing.{Copies}
-use Rattle.hm_ops.specs.Copying.{CopiesChanged, TakesAll, given}
+use Rattle.hm_ops.specs.Copying.{CopiesChanged, TakesReferences, given}
 use Rattle.hm_ops.proofs.Drafts.{name_back, word_back}
 use Rattle.hm_ops.proofs.References.{contains_given}
 use Rattle.hm_ops.proofs.Writings.{place_kept}
@@ -113,7 +113,7 @@ module _ {U : Type 0} where
     pub read_all : (s s1 s2 t : Facts U) (v : Version) (stamp : ℕ) (numbers words : List ℕ)
         (named : List (Option Version)) → Reads lawful allowed m s v s1 → stamp ≡ (contents_at s v).stamp
         → Reads lawful allowed m s1 v s2 → numbers ≡ (contents_at s1 v).numbers
-        → TakesAll lawful allowed m s2 v named t → words ≡ map naming_word named → IsRooted s v
+        → TakesReferences lawful allowed m s2 v named t → words ≡ map naming_word named → IsRooted s v
         → HasRead s t v stamp words numbers
     read_all s s1 s2 t v stamp numbers words named first is second are takes words_are rooted =
         let roots : s2.roots ≡ s.roots = second.roots ∙ first.roots in

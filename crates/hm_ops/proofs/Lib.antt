@@ -1,6 +1,7 @@
 pub mod Between
 pub mod Creates
 pub mod Drafts
+pub mod Fetches
 pub mod Hands
 pub mod Quiet
 pub mod Readings

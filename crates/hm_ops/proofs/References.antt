@@ -23,7 +23,7 @@ use Rattle.hm_cells.proofs.Found.{at_place, same_version}
 use Rattle.hm_cells.proofs.Stepped.{found_held, held_lookable, kept_held, kept_stays, reference_act}
 use Rattle.hm_ops.specs.Resting.{IsKept, IsRooted, Keeps, Works}
 use Rattle.hm_ops.specs.Walking.{contents_at}
-use Rattle.hm_ops.specs.Copying.{Stays, Takes, TakesAll, given}
+use Rattle.hm_ops.specs.Copying.{Stays, TakesReference, TakesReferences, given}
 use Rattle.hm_ops.proofs.Quiet.{roots_kept, same_sight, works_one}
 use Rattle.hm_ops.proofs.Readings.{rooted_sized, same_list}
 use Rattle.hm_ops.proofs.Settled.{held_name}
@@ -118,7 +118,7 @@ module _ {U : Type 0} (lawful : U → PlainStore → Type 0) (allowed : U → Pl
               ap (place_name t.part.hands.held) (some w n.version (e ∙ h.0))
               ∙ (held_name t n.version held.0 ∙ (ap (λ (z : Known). Some z.name) held.1 ∙ sym h.1))
 
-      pub takes_one : Takes s v i named t
+      pub takes_one : TakesReference s v i named t
       takes_one = record {
         stays = record {
           same = same_sight lawful allowed s t act x took refl refl;
@@ -165,7 +165,7 @@ module _ {U : Type 0} (lawful : U → PlainStore → Type 0) (allowed : U → Pl
     }
 
     module _ (vs : List (Option Version)) (w : Option Version) (t u : Facts U) (sound : IsSound lawful allowed t)
-        (before : TakesSome vs t) (one : Takes t v (length vs) w u) where
+        (before : TakesSome vs t) (one : TakesReference t v (length vs) w u) where
       kept : (x : Version) → IsKept s x → IsKept t x
       kept x (inl (r, at)) =
           inl (r, ap (λ (l : List (Option Version)). get_or l r None) before.stays.roots ∙ at)
@@ -217,7 +217,7 @@ module _ {U : Type 0} (lawful : U → PlainStore → Type 0) (allowed : U → Pl
 
     -- all four
     pub takes_all : (vs : List (Option Version)) (t : Facts U) → length vs ≡ 4 → TakesSome vs t
-        → Works lawful allowed t m → TakesAll lawful allowed m s v vs t
+        → Works lawful allowed t m → TakesReferences lawful allowed m s v vs t
     takes_all vs t four some works = record {
       stays = some.stays;
       hand = some.hand;

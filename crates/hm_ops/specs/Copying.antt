@@ -26,8 +26,8 @@ module _ {U : Type 0} where
     pub known : (v : Version) → IsKept s v → IsHeldAt t v × (known_at t v ≡ known_at s v)
 
   -- what a reference of a version names is in hand
-  pub record Takes (s : Facts U) (v : Version) (i : ℕ) (named : Option Version) (t : Facts U)
-      : Type 0 where
+  pub record TakesReference (s : Facts U) (v : Version) (i : ℕ) (named : Option Version)
+      (t : Facts U) : Type 0 where
     pub stays : Stays s t
     pub hand : t.hand ≡ s.hand ++ option_to_list named
     pub name : place_name t.part.hands.held named ≡ reference_at (contents_at s v) i
@@ -40,10 +40,11 @@ module _ {U : Type 0} where
     pub known : known_at t v ≡ known_at s v
     pub whole : IsWholeCopy t.part (turned s (known_at s v) (Store field))
 
-  module _ (lawful : U → PlainStore → Type 0) (allowed : U → PlainStore → Entry → Type 0) (m : Made U) where
+  module _ (lawful : U → PlainStore → Type 0) (allowed : U → PlainStore → Entry → Type 0)
+      (m : Made U) where
     -- what all references of a version name is in hand, and nothing else
-    pub record TakesAll (s : Facts U) (v : Version) (named : List (Option Version)) (t : Facts U)
-        : Type 0 where
+    pub record TakesReferences (s : Facts U) (v : Version) (named : List (Option Version))
+        (t : Facts U) : Type 0 where
       pub stays : Stays s t
       pub hand : t.hand ≡ given named
       pub names : map (place_name t.part.hands.held) named ≡ (contents_at s v).refs

@@ -30,7 +30,8 @@ module _ {U : Type 0} where
     pub known : (v : Version) → IsKept s v → known_at t v ≡ known_at s v
     pub whole : IsWholeCopy t.part x
 
-  module _ (lawful : U → PlainStore → Type 0) (allowed : U → PlainStore → Entry → Type 0) (m : Made U) where
+  module _ (lawful : U → PlainStore → Type 0) (allowed : U → PlainStore → Entry → Type 0)
+      (m : Made U) where
     -- a call ends: it made its entry, and took so many versions
     pub record Ends (s : Facts U) (e : Entry) (taken : ℕ) (t : Facts U) : Type 0 where
       pub entry : Enters lawful allowed (sight_of s) (sight_of t) e

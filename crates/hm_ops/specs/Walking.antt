@@ -22,7 +22,8 @@ module _ {U : Type 0} where
   abbrev pub ahead : Made U → Facts U → Version → ℕ
   ahead m s v = version_count m.site.shape - (known_at s v).rank
 
-  module _ (lawful : U → PlainStore → Type 0) (allowed : U → PlainStore → Entry → Type 0) (m : Made U) where
+  module _ (lawful : U → PlainStore → Type 0) (allowed : U → PlainStore → Entry → Type 0)
+      (m : Made U) where
     -- a walk from a root place ends at a version: the place names it, and the object was fetched there
     pub record Walks (s : Facts U) (r : Root) (v : Version) (t : Facts U) : Type 0 where
       pub fetch : Fetches lawful allowed (sight_of s) (sight_of t) r (contents_at t v)
@@ -37,7 +38,7 @@ module _ {U : Type 0} where
       pub nearer : ahead m t next < ahead m s v
       pub keeps : Keeps lawful allowed t m
 
-    -- no version lies behind one: an entry is made where it was wanted, and else nothing shows to others
+    -- no version lies behind one: an entry is made where it was wanted, else nothing shows to others
     pub record IsLast (s : Facts U) (v : Version) (want : Option Entry) (t : Facts U) : Type 0 where
       pub tells : Tells lawful allowed want (sight_of s) (sight_of t)
       pub same : want ≡ None → sight_of t ≡ sight_of s

@@ -5,7 +5,7 @@ ghost use Rattle.hm_core.specs.Moving.{HasRoom};
 ghost use Rattle.hm_cells.specs.Calls.{MayChange};
 ghost use Rattle.hm_cells.specs.Facts.{with_hand};
 ghost use Rattle.hm_ops.specs.Resting.{IsRooted, Keeps, Works, most_working};
-ghost use Rattle.hm_ops.specs.Copying.{CopiesChanged, Takes, TakesAll, given};
+ghost use Rattle.hm_ops.specs.Copying.{CopiesChanged, TakesReference, TakesReferences, given};
 
 use crate::reading::{read_numbers, read_stamp};
 use crate::writing::{reference_word, write_copy};
@@ -51,7 +51,7 @@ fn take_references<U: Usage>(
 ) -> [Option<Version>; 4]
     requires keeps { Keeps U.lawful U.allowed pass.old cells.now }
     requires rooted { IsRooted pass.old v }
-    ensures takes { TakesAll U.lawful U.allowed cells.now pass.old v result pass.new }
+    ensures takes { TakesReferences U.lawful U.allowed cells.now pass.old v result pass.new }
 {
     [
         take_reference(cells, pass, v, 0),
@@ -72,7 +72,7 @@ fn take_reference<U: Usage>(
     requires hand { length pass.old.hand < most_working }
     requires rooted { IsRooted pass.old v }
     requires reference { i < 4 }
-    ensures takes { Takes pass.old v i result pass.new }
+    ensures takes { TakesReference pass.old v i result pass.new }
     ensures works { Works U.lawful U.allowed pass.new cells.now }
 {
     let word = load_field(cells, pass, v, FIRST_REFERENCE + i, false);

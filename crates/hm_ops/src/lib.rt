@@ -5,10 +5,24 @@
 //! that the walk has come to. What a version holds is loaded afterwards, since nothing of it changes. A create
 //! writes the words of the caller's next version, and publishes it.
 //!
-//! A conditional store loads the stamp of each version that it comes to. At the given stamp it writes a changed copy
-//! as the caller's next version, and exchanges the link for it. Where another version was linked meanwhile, it goes on
-//! to that one and writes the copy anew in the same place. At another stamp it loads the link, and answers `Changed`
-//! where that is 0.
+//! A store of one field walks in the same way. It writes a changed copy of the last version as the caller's next
+//! version, with the stamp raised, and exchanges the link for it: that is where its entry is made. Where another
+//! version was linked meanwhile, the exchange finds that, and the store goes on from it and writes its copy anew in
+//! the same place.
+//!
+//! ```text
+//!              the exchange finds another version
+//!     .---------------------------------------------------.
+//!     v                                                   |
+//!   version --- look: no link ---> copy_changed ---> link it --- from 0 ---> done
+//!     ^    |
+//!     '----'  look: another version
+//! ```
+//!
+//! A conditional store loads the stamp of each version that it comes to. At the given stamp it does the same with all
+//! fields. At another stamp it loads the link, and answers `Changed` where that is 0.
+//!
+//! Each call returns, since ranks rise along links and no rank passes the number of the heap's versions.
 //!
 //! Each call begins and ends with nothing in hand and at most 400 versions held. No call takes memory or a lock,
 //! or waits.

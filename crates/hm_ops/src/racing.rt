@@ -34,7 +34,8 @@ fn writes(
     ensures place { IsAtPlace pass.new 0 v }
     ensures room { HasRoom pass.new.part }
     ensures field { MayChange pass.new field }
-    ensures whole { IsWholeCopy pass.new.part (turned pass.new (known_at pass.new v) (Store field)) }
+    ensures whole { IsWholeCopy pass.new.part
+        (turned pass.new (known_at pass.new v) (Store field)) }
 {
     assert!(rt; pass.room() > 0 && pass.root(Root(0)) == Some(v));
     copy_changed(cells, pass, v, field);
@@ -53,7 +54,8 @@ fn exchanges(
     requires place { IsAtPlace pass.old 0 v }
     requires room { HasRoom pass.old.part }
     requires field { MayChange pass.old field }
-    requires whole { IsWholeCopy pass.old.part (turned pass.old (known_at pass.old v) (Store field)) }
+    requires whole { IsWholeCopy pass.old.part
+        (turned pass.old (known_at pass.old v) (Store field)) }
     ensures rests { IsResting pass.new cells.now }
 {
     assert!(rt; pass.room() > 0);

@@ -74,7 +74,8 @@ fn store<U: Usage>(
     requires rests { IsResting pass.old cells.now }
     requires at { IsSet (sight_of pass.old) at }
     requires field { MayChange pass.old field }
-    requires allowed { MayStore U.lawful U.allowed (sight_of pass.old) at (field_of pass.old field) }
+    requires allowed { MayStore U.lawful U.allowed (sight_of pass.old) at
+        (field_of pass.old field) }
     ensures stored { OnOk result (Stores U.lawful U.allowed
         (sight_of pass.old) (sight_of pass.new) at (field_of pass.old field)) }
     ensures full { IsErr result ↔ ((sight_of pass.old).room ≡ 0) }

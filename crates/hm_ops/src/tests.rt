@@ -1,10 +1,15 @@
 //! Two passes on one thread: what one makes and the other sees of it, and how much room there is.
 ghost use Rattle.std.specs.Prelude.{◌≡◌, ◌<◌, ◌≤◌, IfOk, IfSome};
+ghost use Rattle.hm_model.specs.declared.object.Field.TheVariants.{Number};
+ghost use Rattle.hm_model.specs.Sight.{IsSet};
+ghost use Rattle.hm_model.specs.Calls.{MayStore};
+ghost use Rattle.hm_model.specs.Reading.{ReadsBack};
+ghost use Rattle.hm_cells.specs.Facts.{sight_of};
 ghost use Rattle.hm_ops.specs.Resting.{IsResting};
 
 use crate::{create, fetch, fetch_number, fetch_ref, store_if, store_number, store_ref};
 use hm_cells::{Cells, Memory, Pass, meet, split};
-use hm_model::{AnyUsage, Full, Root, Snapshot, Start, StoreIfRefused};
+use hm_model::{AnyUsage, Full, Root, Snapshot, Start, StoreIfRefused, Usage};
 use hm_shape::Shape;
 use std::alloc::Global;
 use std::process::Abort;
@@ -109,6 +114,27 @@ fn stores(
 {
     assert!(rt; pass.is_set(Root(0)));
     store_number(cells, pass, Root(0), i, value)
+}
+
+// A store of number `i` of the object at a place, and a fetch of it: the caller reads its own number, unless another
+// one stored to the object between.
+fn reads_back<U: Usage>(
+    cells: &Cells<U>,
+    pass: &mut Pass<U>,
+    at: Root,
+    i: u32,
+    value: u64,
+) -> Result<u64, Full>
+    requires rests { IsResting pass.old cells.now }
+    requires at { IsSet (sight_of pass.old) at }
+    requires field { i < 10 }
+    requires allowed { MayStore U.lawful U.allowed (sight_of pass.old) at (Number i value) }
+    ensures read { IfOk result
+        (ReadsBack U.lawful U.allowed (sight_of pass.old) (sight_of pass.new) at i value) }
+    ensures rests { IsResting pass.new cells.now }
+{
+    store_number(cells, pass, at, i, value)?;
+    Ok(fetch_number(cells, pass, at, i))
 }
 
 // A store of reference `i` of the common object: what a place names, or none.
@@ -236,6 +262,16 @@ fn a_reader_three_links_behind_finds_the_last_stamp(rt: HostRuntime) -> Result<(
     let last = snapshot(3, [3, 0, 0, 0, 0, 0, 0, 0, 0, 0], [false; 4]);
     assert_eq!(rt; fetches(&rt, &cells, &mut b, 0), (last, 0, false));
     assert_eq!(rt; (counts(&a), counts(&b)), ((0, 4, 0), (4, 0, 0)));
+    Ok(())
+}
+
+#[test]
+fn a_caller_reads_back_its_own_store(rt: HostRuntime) -> Result<(), Fail> {
+    let (cells, mut a, mut b) = bare(&rt, rt.alloc(), 4)?;
+    assert_eq!(rt; stores(&rt, &cells, &mut b, 3, 6), Ok(()));
+    assert!(rt; a.is_set(Root(0)));
+    assert_eq!(rt; reads_back(&cells, &mut a, Root(0), 3, 8), Ok(8));
+    assert_eq!(rt; (counts(&a), counts(&b)), ((2, 2, 0), (3, 1, 0)));
     Ok(())
 }
 
