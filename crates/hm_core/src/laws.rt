@@ -31,6 +31,7 @@ impl Machine {
         played
     }
 
+    // Answers steps one after another, as long as there is memory.
     fn play(&mut self, steps: &[Step]) -> Result<(), Memory>
         ensures played { OnOk result (Plays self.old steps.now self.new) }
         ensures memory { OnErr result ((i : ℕ) × Plays self.old (take i steps.now) self.new) }

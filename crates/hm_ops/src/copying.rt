@@ -8,7 +8,7 @@ ghost use Rattle.hm_ops.specs.Resting.{IsRooted, Keeps, Works, most_working};
 ghost use Rattle.hm_ops.specs.Copying.{CopiesChanged, TakesReference, TakesReferences, given};
 
 use crate::reading::{read_numbers, read_stamp};
-use crate::writing::{reference_word, write_copy};
+use crate::writing::{reference_word, word_of, write_copy};
 use hm_cells::{Cells, Pass, WantField, load_field};
 use hm_model::Usage;
 use hm_shape::{FIRST_REFERENCE, Version};
@@ -40,6 +40,7 @@ pub(crate) fn copy_changed<U: Usage>(
         WantField::Refer { i, value } => words[i as usize] = reference_word(pass, value),
     }
     write_copy(cells, pass, stamp, words, numbers);
+    // A release takes no step, so all of it is held still when the copy is linked.
     release_all(pass, named);
 }
 
@@ -85,16 +86,6 @@ fn words_of(named: [Option<Version>; 4]) -> [u64; 4]
 {
     let [a, b, c, d] = named;
     [word_of(a), word_of(b), word_of(c), word_of(d)]
-}
-
-// The word that names a version, or none.
-fn word_of(v: Option<Version>) -> u64
-    ensures { result ≡ naming_word v }
-{
-    match v {
-        Some(v) => v.name(),
-        None => 0,
-    }
 }
 
 // Releases all that is in hand: what the references name.

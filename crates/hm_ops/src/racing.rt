@@ -8,12 +8,12 @@ ghost use Rattle.hm_cells.specs.Facts.{known_at, sight_of};
 ghost use Rattle.hm_ops.specs.Resting.{IsAtPlace, IsResting, Keeps};
 
 use crate::copying::copy_changed;
-use crate::linking::link;
+use crate::linking::{link, look};
 use crate::reading::{read_number, read_stamp};
 use crate::tests::bare;
 use crate::walking::walk;
 use crate::{fetch, store_number};
-use hm_cells::{Cells, Pass, Want, WantField, load_link};
+use hm_cells::{Cells, Pass, Want, WantField};
 use hm_model::{AnyUsage, Root, Snapshot};
 use hm_shape::Version;
 use std::process::Abort;
@@ -71,12 +71,14 @@ fn fetches(rt: &impl Abort, cells: &Cells<AnyUsage>, pass: &mut Pass<AnyUsage>) 
     fetch(cells, pass, Root(0), Root(4))
 }
 
-// The version that is linked behind the one at place 0, by one load.
-fn links(rt: &impl Abort, cells: &Cells<AnyUsage>, pass: &mut Pass<AnyUsage>) -> Option<Version>
+// The version that is linked behind the one at place 0, which then names it.
+fn follows(rt: &impl Abort, cells: &Cells<AnyUsage>, pass: &mut Pass<AnyUsage>) -> Option<Version>
     requires { IsResting pass.old cells.now }
+    ensures { IsResting pass.new cells.now }
 {
-    let v = pass.root(Root(0)).expect(rt, "place 0 is set");
-    load_link(cells, pass, v, Want::Nothing, false)
+    assert!(rt; pass.is_set(Root(0)));
+    let v = pass.root(Root(0)).unwrap();
+    look(cells, pass, Root(0), v, Want::Nothing)
 }
 
 fn snapshot(stamp: u64, first: u64, second: u64) -> Snapshot {
@@ -105,9 +107,11 @@ fn two_stores_race_on_one_object(rt: HostRuntime) -> Result<(), Fail> {
     assert_eq!(rt; exchanges(&rt, &cells, &mut a, Version(16), seven), None);
     assert_eq!(rt; a.root(Root(0)), Some(Version(1)));
     assert_eq!(rt; (a.used(), b.used()), (2, 1));
+    // Behind caller 1's version lies caller 0's, and that is the last.
+    assert_eq!(rt; b.root(Root(0)), Some(Version(16)));
+    assert_eq!(rt; follows(&rt, &cells, &mut b), Some(Version(1)));
+    assert_eq!(rt; follows(&rt, &cells, &mut b), None);
     assert_eq!(rt; fetches(&rt, &cells, &mut b), snapshot(2, 7, 9));
-    assert_eq!(rt; b.root(Root(0)), Some(Version(1)));
-    assert_eq!(rt; links(&rt, &cells, &mut b), None);
     Ok(())
 }
 

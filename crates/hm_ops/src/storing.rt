@@ -112,7 +112,7 @@ fn try_store<U: Usage>(
     ensures { Steps U.lawful U.allowed cells.now pass.old at v
         (stored pass.old (known_at pass.old v) (Store field)) 1 result pass.new }
 {
-    // A copy is written only where no link was there a moment ago: most walks pass several versions.
+    // A copy is sixteen stores, so it is written only where no link is there yet.
     if let Some(next) = look(cells, pass, at, v, Want::Nothing) {
         return Some(next);
     }

@@ -1,6 +1,7 @@
 //! Words of a caller's next version.
 ghost use Rattle.std.specs.Prelude.{◌≡◌, ℕ, ◌+◌, ◌<◌, ◌≤◌, IfSome, All, length, map, slice_index};
 ghost use Rattle.hm_shape.specs.declared.version.TheConstants.{VERSION_WORDS};
+ghost use Rattle.hm_shape.specs.Words.{naming_word};
 ghost use Rattle.hm_model.specs.Sight.{AreSet, names_of};
 ghost use Rattle.hm_core.specs.Moving.{HasRoom};
 ghost use Rattle.hm_cells.specs.Facts.{sight_of};
@@ -10,7 +11,7 @@ ghost use Rattle.hm_ops.specs.Writing.{Drafts, Lasts, NamesKept, Writes, name_by
 
 use hm_cells::{Cells, Pass, store_own};
 use hm_model::{Root, Usage};
-use hm_shape::{FIRST_NUMBER, FIRST_REFERENCE, LINK, STAMP};
+use hm_shape::{FIRST_NUMBER, FIRST_REFERENCE, LINK, STAMP, Version};
 
 /// Writes the caller's next version as a new object that names what the given places name.
 pub(crate) fn draft<U: Usage>(
@@ -99,10 +100,17 @@ pub(crate) fn reference_word<U: Usage>(pass: &Pass<U>, r: Option<Root>) -> u64
     requires { IfSome r (λ place. place.0 < 256) }
     ensures { result ≡ reference_word pass.now.roots r }
 {
-    let Some(r) = r else {
-        return 0;
-    };
-    match pass.root(r) {
+    match r {
+        Some(r) => word_of(pass.root(r)),
+        None => 0,
+    }
+}
+
+/// The word that names a version, or none.
+pub(crate) fn word_of(v: Option<Version>) -> u64
+    ensures { result ≡ naming_word v }
+{
+    match v {
         Some(v) => v.name(),
         None => 0,
     }
