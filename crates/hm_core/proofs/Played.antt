@@ -1,5 +1,5 @@
 -- One step more is played.
-use Rattle.std.proofs.Common.{◌≡◌, ◌<◌, ◌+◌, ℕ, List, [], ◌∷◌, ◌++◌, length, get_or, take, sym, subst}
+use Rattle.std.proofs.Common.{◌<◌, ◌+◌, ℕ, List, [], ◌∷◌, ◌++◌, length, get_or, take, refl, sym, subst}
 use Rattle.std.proofs.lemmas.List.{take_more}
 use Rattle.hm_core.specs.declared.step.Step.{Step}
 use Rattle.hm_core.specs.Running.{Moment}
@@ -9,7 +9,7 @@ use Rattle.hm_core.specs.Playing.{Answers, Plays}
 plays_last : (m l n : Moment) (steps : List Step) (step : Step) → Plays m steps l → Answers l step n
     → Plays m (steps ++ step ∷ []) n
 plays_last m l n [] step same answers =
-    (n, subst (λ (x : Moment). Answers x step n) same answers, Rattle.std.proofs.Common.refl)
+    (n, subst (λ (x : Moment). Answers x step n) same answers, refl)
 plays_last m l n (s ∷ steps) step plays answers =
     (plays.0, plays.1, plays_last plays.0 l n steps step plays.2 answers)
 

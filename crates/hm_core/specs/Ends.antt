@@ -19,11 +19,11 @@ pub record EndsAfter (s : Shape) (h : Heap) (k : Known) (n : ℕ) : Type 0 where
   pub links : Links s h n k last
   pub none : link_of s h.words last ≡ 0
 
--- once so many cycles are done, each version was given out once more often than that at most
+-- so many links: the number of all versions, times one more than the number of cycles that are done
 abbrev pub most_links : Shape → ℕ → ℕ
 most_links s done = version_count s * (done + 1)
 
--- behind each published version its chain ends, after so many links at most
+-- behind each published version its chain ends, after at most so many links
 pub record ChainsEnd (s : Shape) (h : Heap) (done : ℕ) : Type 0 where
   pub ends : (k : Known) → IsPublished h.index k → (n : ℕ) × EndsAfter s h k n
   pub few : (k : Known) (n : ℕ) → IsPublished h.index k → EndsAfter s h k n

@@ -1,17 +1,18 @@
 -- The tables of a fresh machine.
-use Rattle.std.specs.Prelude.{ℕ, zero, suc, ◌+◌, ◌*◌, ◌-◌, ◌<◌, ◌^◌, List, [], ◌∷◌, ◌++◌, All, IfSome, length, map, replicate, Option, Some, None, option_map}
+use Rattle.std.specs.Prelude.{◌≡◌, ℕ, zero, suc, ◌+◌, ◌*◌, ◌-◌, ◌<◌, ◌^◌, List, [], ◌∷◌, ◌++◌, All, IfSome, length, map, replicate, Option, Some, None, option_map}
 use Rattle.std.specs.List.{flat_map}
 use Rattle.hm_shape.specs.declared.shape.Shape.{Shape}
 use Rattle.hm_shape.specs.Words.{word_count}
 use Rattle.hm_model.specs.declared.object.Name.{Name}
 use Rattle.hm_model.specs.Store.{Numbers, IsSized}
 use Rattle.hm_model.specs.Effect.{new_contents}
-use Rattle.hm_model.specs.History.{starting_name}
+use Rattle.hm_model.specs.History.{opening_of, starting_name}
 use Rattle.hm_model.specs.declared.entry.Entry.{Entry}
 use Rattle.hm_model.specs.declared.entry.Entry.TheVariants.{Create}
 use Rattle.hm_core.specs.declared.part.Known.{Known}
-use Rattle.hm_core.specs.Fresh.{starting_known}
+use Rattle.hm_core.specs.Fresh.{starting_known, IsFreshCore}
 use Rattle.hm_core.specs.SeatStates.{SeatState}
+use Rattle.hm_core.specs.Running.{Moment, core_of, site_of}
 
 -- a side object that is given has a name
 abbrev pub name_of_side : ℕ → Option Numbers → Option Name
@@ -58,3 +59,8 @@ first_words s firsts =
 abbrev pub first_seats : ℕ → ℕ → List SeatState
 first_seats seen zero = []
 first_seats seen (suc n) = first_seats seen n ++ record { seen = seen; parts = n ∷ [] } ∷ []
+
+-- a machine is fresh where its state is, and each caller has such a seat
+pub record IsFreshMachine (m : Moment) : Type 0 where
+  pub core : IsFreshCore (site_of m) (core_of m)
+  pub seats : m.seats ≡ first_seats (length (opening_of m.start)) m.shape.callers

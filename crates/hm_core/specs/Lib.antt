@@ -11,5 +11,5 @@ pub mod Chronicles
 pub mod Running
 pub mod Tables
 pub mod Taking
-pub mod Playing
 pub mod Firsts
+pub mod Playing

@@ -3,8 +3,8 @@ use Rattle.std.specs.Prelude.{◌≡◌, ◌≢◌, ℕ, ◌⊎◌, List, [], �
 use Rattle.hm_core.specs.declared.step.Step.{Step}
 use Rattle.hm_core.specs.declared.step.StepRefused.{StepRefused}
 use Rattle.hm_core.specs.declared.step.StepRefused.TheVariants.{Memory}
-use Rattle.hm_core.specs.Fresh.{IsFreshCore}
-use Rattle.hm_core.specs.Running.{Moment, core_of, site_of}
+use Rattle.hm_core.specs.Firsts.{IsFreshMachine}
+use Rattle.hm_core.specs.Running.{Moment, site_of}
 use Rattle.hm_core.specs.Taking.{IsRefusedFor, Takes}
 
 -- a step is refused for a condition that fails, and then changes nothing
@@ -23,8 +23,9 @@ abbrev pub Plays : Moment → List Step → Moment → Type 0
 Plays m [] n = n ≡ m
 Plays m (step ∷ steps) n = (l : Moment) × Answers m step l × Plays l steps n
 
--- a machine has played steps from a fresh one on
+-- a machine has played steps from a fresh one of the same heap on
 pub record PlaysFresh (steps : List Step) (n : Moment) : Type 0 where
   pub first : Moment
-  pub fresh : IsFreshCore (site_of first) (core_of first)
+  pub fresh : IsFreshMachine first
+  pub site : site_of n ≡ site_of first
   pub plays : Plays first steps n

@@ -1,5 +1,5 @@
 //! What holds after every list of steps.
-ghost use Rattle.std.specs.Prelude.{◌≡◌, ◌≤◌, ℕ, IfOk, OnErr, OnOk, take};
+ghost use Rattle.std.specs.Prelude.{◌≡◌, ◌<◌, ◌≤◌, ℕ, IfOk, OnErr, OnOk, length, take};
 ghost use Rattle.hm_model.specs.History.{starting_count};
 ghost use Rattle.hm_core.specs.Running.{any_store, any_entry, core_of, site_of};
 ghost use Rattle.hm_core.specs.Ends.{ChainsEnd};
@@ -13,14 +13,15 @@ use hm_shape::Shape;
 use std::alloc::Global;
 
 impl Machine {
-    /// Takes steps one after another. A step that is refused changes nothing, and the next one is taken. Where memory
-    /// runs out, the steps before that one were taken.
+    /// Takes steps one after another. A step that is refused changes nothing, and the list goes on with the next one.
+    /// Where memory runs out at a step, those before it were answered, and nothing else was done.
     ///
-    /// Behind each published version its chain ends, after at most so many links as the heap has versions: until
+    /// Behind each published version its chain ends, after at most as many links as the heap has versions: until
     /// regions are used again, no cycle is done.
     pub fn apply_all(&mut self, steps: &[Step]) -> Result<(), Memory>
         ensures played { OnOk result (Plays self.old steps.now self.new) }
-        ensures memory { OnErr result ((i : ℕ) × Plays self.old (take i steps.now) self.new) }
+        ensures memory { OnErr result ((i : ℕ) × (i < length steps.now)
+            × Plays self.old (take i steps.now) self.new) }
         ensures leads { Leads any_store any_entry (core_of self.old) (core_of self.new) }
         ensures safe { IsSafe (site_of self.new) (core_of self.new) }
         ensures ends { ChainsEnd self.new.shape (core_of self.new).heap 0 }
@@ -34,7 +35,8 @@ impl Machine {
     // Answers steps one after another, as long as there is memory.
     fn play(&mut self, steps: &[Step]) -> Result<(), Memory>
         ensures played { OnOk result (Plays self.old steps.now self.new) }
-        ensures memory { OnErr result ((i : ℕ) × Plays self.old (take i steps.now) self.new) }
+        ensures memory { OnErr result ((i : ℕ) × (i < length steps.now)
+            × Plays self.old (take i steps.now) self.new) }
         ensures leads { Leads any_store any_entry (core_of self.old) (core_of self.new) }
         ensures site { site_of self.new ≡ site_of self.old }
     {
@@ -58,7 +60,8 @@ impl Machine {
     }
 }
 
-/// The machine after a list of steps, from a fresh one on. A step that is refused changes nothing.
+/// The machine after a list of steps, from a fresh one on. A step that is refused changes nothing. The start has at
+/// most as many objects as a region has versions. Answers `Memory` where there is none for the machine, or for a step.
 pub fn machine_after(
     alloc: Global,
     shape: Shape,

@@ -39,7 +39,8 @@
 //! with the plain store that it leaves, what each caller holds and has written, and how much each seat has seen
 //! (`specs/Running.antt`). [`Machine::apply`] refuses a step for the first condition that fails, and else leaves the
 //! state that the cuts make (`specs/Taking.antt`). A version is found by its number, and an object by its name, in
-//! constant time. [`machine_after`] has the safety rule after every list of steps.
+//! constant time. [`machine_after`] has the safety rule after every list of steps, that chains end (`specs/Ends.antt`),
+//! and that the list was played step by step (`specs/Playing.antt`).
 #![tactic(auto)]
 
 mod apply;

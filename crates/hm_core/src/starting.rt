@@ -5,8 +5,8 @@ ghost use Rattle.hm_model.specs.Effect.{new_contents as contents_of_new};
 ghost use Rattle.hm_model.specs.History.{AllStand, starting_count, starting_name as name_of_first};
 ghost use Rattle.hm_core.specs.Chain.{row_count};
 ghost use Rattle.hm_core.specs.Moving.{listed, nothing_written};
-ghost use Rattle.hm_core.specs.Fresh.{all_known, starting_known, IsFreshCore};
-ghost use Rattle.hm_core.specs.Firsts.{IsWritable, creates_of, name_of_side, version_of_side, word_of_first, words_of_first, head_words, first_words, first_seats};
+ghost use Rattle.hm_core.specs.Fresh.{all_known, starting_known};
+ghost use Rattle.hm_core.specs.Firsts.{IsFreshMachine, IsWritable, creates_of, name_of_side, version_of_side, word_of_first, words_of_first, head_words, first_words, first_seats};
 
 use crate::chronicle::Chronicle;
 use crate::contents::new_contents;
@@ -20,12 +20,10 @@ use hm_shape::{Shape, Version};
 use std::alloc::{AllocError, Global};
 
 impl Machine {
-    ghost use Rattle.hm_core.specs.Running.{core_of, site_of};
-
     /// A fresh machine. Each caller holds the version of the common object, and nothing else.
     pub fn new(alloc: Global, shape: Shape, start: Start) -> Result<Machine, Memory>
         requires { starting_count start ≤ shape.versions }
-        ensures fresh { IfOk result (λ machine. IsFreshCore (site_of machine) (core_of machine)) }
+        ensures fresh { IfOk result IsFreshMachine }
         ensures shape { IfOk result (λ machine. machine.shape ≡ shape) }
         ensures start { IfOk result (λ machine. machine.start ≡ start) }
     {

@@ -1,5 +1,5 @@
 -- Stores of a field, from their steps.
-use Rattle.std.proofs.Common.{◌≡◌, ◌+◌, ℕ, List, get_or, Option, Some, None, sym, ap, ◌∙◌, subst}
+use Rattle.std.proofs.Common.{◌≡◌, Some, refl, sym, subst}
 use Rattle.hm_shape.specs.declared.version.Version.{Version}
 use Rattle.hm_model.specs.declared.entry.Entry.{Entry}
 use Rattle.hm_model.specs.declared.entry.Entry.TheVariants as entry
@@ -22,7 +22,7 @@ use Rattle.hm_ops.proofs.Walks.{placed_held}
 module _ {U : Type 0} where
   -- a field is the same to passes that others see alike
   pub field_same : (s t : Facts U) (field : WantField) → sight_of t ≡ sight_of s → field_of t field ≡ field_of s field
-  field_same s t (want.Number i value) same = Rattle.std.proofs.Common.refl
+  field_same s t (want.Number i value) same = refl
   field_same s t (want.Refer i r) same = λ j. Refer i (name_of (same j) r)
 
 module _ {U : Type 0} (lawful : U → PlainStore → Type 0) (allowed : U → PlainStore → Entry → Type 0)

@@ -6,11 +6,10 @@ use Rattle.hm_model.specs.declared.entry.Entry.{Entry}
 use Rattle.hm_model.specs.declared.entry.Entry.TheVariants.{Create}
 use Rattle.hm_model.specs.declared.root.Root.{Root}
 use Rattle.hm_model.specs.Store.{Numbers, PlainStore, Refs}
-use Rattle.hm_model.specs.Sight.{Sight, Places, Rests, SetsRoot, Enters, Continues, MayEnter, name_at, names_of}
+use Rattle.hm_model.specs.Sight.{Sight, Places, Rests, SetsRoot, Enters, MayEnter, name_at, names_of}
 use Rattle.hm_model.specs.Calls.{Creates, MayCreate}
 use Rattle.hm_model.proofs.CallFacts.{creates_enters}
 use Rattle.hm_model.proofs.Entering.{enters_rests}
-use Rattle.hm_model.proofs.SightFacts.{continues_enters}
 use Rattle.hm_core.specs.declared.part.Known.{Known}
 use Rattle.hm_core.specs.declared.moving.Act.{Act}
 use Rattle.hm_core.specs.declared.moving.Act.TheVariants.{Publish}
@@ -20,7 +19,7 @@ use Rattle.hm_cells.specs.Calls.{MayPublish, Takes, drafted, drafted_numbers, dr
 use Rattle.hm_cells.proofs.Stepped.{new_held}
 use Rattle.hm_ops.specs.Resting.{Keeps}
 use Rattle.hm_ops.specs.Writing.{Drafts}
-use Rattle.hm_ops.proofs.Quiet.{fits_kept, few_kept, hand_taken, site_kept, untended}
+use Rattle.hm_ops.proofs.Quiet.{fits_kept, few_kept, hand_taken, site_kept}
 use Rattle.hm_ops.proofs.Settled.{held_name, settled, settled_is, settled_keeps, settled_rests}
 
 module _ {U : Type 0} (lawful : U → PlainStore → Type 0) (allowed : U → PlainStore → Entry → Type 0) where
@@ -53,9 +52,6 @@ module _ {U : Type 0} (lawful : U → PlainStore → Type 0) (allowed : U → Pl
       -- the new version is held and in hand
       pub made_held : IsHeldAt u made
       made_held = here.0
-
-      pub made_taken : Contains u.hand made
-      made_taken = here.2
 
       entered : Enters lawful allowed (sight_of s) (sight_of u)
           (Create s.part.number n (names_of (sight_of s) refs) numbers)
@@ -92,10 +88,6 @@ module _ {U : Type 0} (lawful : U → PlainStore → Type 0) (allowed : U → Pl
               (settled_keeps lawful allowed u m into (Some made)
               (fits_kept lawful allowed t u act 0 took m k.resting.fits)
               (few_kept lawful allowed t u act 0 took m k after) after here.0)
-
-          pub create_continues : Continues lawful allowed (sight_of s) (sight_of f)
-          create_continues = continues_enters lawful allowed (sight_of s) (sight_of f)
-              (Create s.part.number n (names_of (sight_of s) refs) numbers) entered_all (untended s f)
 
           named : SetsRoot (sight_of s) (sight_of f) into.0 (Some n)
           named =

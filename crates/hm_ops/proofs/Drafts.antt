@@ -74,9 +74,6 @@ module _ {U : Type 0} where
     wide : length words ≡ 4
     wide = ap length are ∙ (length-map refs (reference_word s.roots) ∙ four)
 
-    roots1 : t1.roots ≡ s.roots
-    roots1 = stamp.roots
-
     roots2 : t2.roots ≡ s.roots
     roots2 = given.roots ∙ stamp.roots
 

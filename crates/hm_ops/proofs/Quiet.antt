@@ -3,7 +3,6 @@ use Rattle.std.proofs.Common.{◌≡◌, ◌≤◌, ◌+◌, ◌-◌, ℕ, List,
 use Rattle.hm_shape.specs.declared.version.Version.{Version}
 use Rattle.hm_model.specs.declared.entry.Entry.{Entry}
 use Rattle.hm_model.specs.Store.{PlainStore}
-use Rattle.hm_model.specs.Sight.{IsUntended}
 use Rattle.hm_core.specs.declared.part.Known.{Known}
 use Rattle.hm_core.specs.declared.moving.Act.{Act}
 use Rattle.hm_core.specs.Moving.{count_of, entry_of, listed, publishes, seen_after}
@@ -11,14 +10,6 @@ use Rattle.hm_cells.specs.Facts.{Facts, Made, Fits, IsSound, room_of, sight_of}
 use Rattle.hm_cells.specs.Calls.{Takes}
 use Rattle.hm_cells.proofs.Stepped.{held_few}
 use Rattle.hm_ops.specs.Resting.{Keeps, Works}
-
-version_in : Known → Version
-version_in k = k.version
-
-module _ {U : Type 0} where
-  -- no call but that of tending changes what it counts
-  pub untended : (s t : Facts U) → IsUntended (sight_of s) (sight_of t)
-  untended s t = record { copying = refl; moves = refl; tends = refl }
 
 module _ {U : Type 0} (lawful : U → PlainStore → Type 0) (allowed : U → PlainStore → Entry → Type 0) where
   -- a pass at rest may begin to work, and rests again where nothing is in hand
@@ -55,11 +46,16 @@ module _ {U : Type 0} (lawful : U → PlainStore → Type 0) (allowed : U → Pl
     }
 
     -- few are held still
+    few_working : length s.hand ≤ 4 → length s.part.hands.held ≤ 400 → IsSound lawful allowed s
+        → IsSound lawful allowed t → length t.part.hands.held ≤ 400
+    few_working hand few sound after =
+        held_few lawful allowed s t act x sound after took 400 few (omega arith)
+
     pub few_kept : (m : Made U) → Keeps lawful allowed s m → IsSound lawful allowed t → length
         t.part.hands.held ≤ 400
     few_kept m k after =
         let none : length s.hand ≡ 0 = ap (λ (l : List Version). length l) k.resting.empty in
-        held_few lawful allowed s t act x k.sound after took 400 k.resting.few (omega arith)
+        few_working (omega arith) k.resting.few k.sound after
 
     -- what is in hand
     pub hand_taken : (found new : Option Known) → s.hand ≡ [] → took.found ≡ found → publishes act x ≡ new
@@ -67,11 +63,6 @@ module _ {U : Type 0} (lawful : U → PlainStore → Type 0) (allowed : U → Pl
     hand_taken found new empty is is' =
         ap (λ (f : Facts U). f.hand) took.is
         ∙ (λ i. empty i ++ map (λ k. k.version) (listed (is i) ++ listed (is' i)))
-
-    few_working : length s.hand ≤ 4 → length s.part.hands.held ≤ 400 → IsSound lawful allowed s
-        → IsSound lawful allowed t → length t.part.hands.held ≤ 400
-    few_working hand few sound after =
-        held_few lawful allowed s t act x sound after took 400 few (omega arith)
 
     -- a move that takes nothing into the hand leaves what is there
     pub hand_kept : took.found ≡ None → publishes act x ≡ None → t.hand ≡ s.hand

@@ -16,16 +16,15 @@ use Rattle.hm_core.specs.Chain.{reference_at}
 use Rattle.hm_core.specs.Moving.{entry_of, publishes}
 use Rattle.hm_core.specs.Good.{IsReference}
 use Rattle.hm_core.specs.Stepping.{field_act}
-use Rattle.hm_cells.specs.Facts.{Facts, Fits, Made, IsSound, IsHeldAt, known_at, place_name, sight_of, with_hand, with_root, without_first}
+use Rattle.hm_cells.specs.Facts.{Facts, Fits, Made, IsLookable, IsSound, IsHeldAt, known_at, place_name, sight_of, with_hand, with_root, without_first}
 use Rattle.hm_cells.specs.Calls.{Takes}
 use Rattle.hm_cells.proofs.Fields.{shape_small}
 use Rattle.hm_cells.proofs.Found.{same_version}
-use Rattle.hm_cells.proofs.Stepped.{kept_stays, found_held, held_lookable, known_fit, number_act, reference_act}
+use Rattle.hm_cells.proofs.Stepped.{kept_held, kept_stays, found_held, held_lookable, known_fit, number_act, reference_act}
 use Rattle.hm_ops.specs.Resting.{IsRooted, IsRootedBeside, Keeps}
 use Rattle.hm_ops.specs.Walking.{Reads, ReadsInto, contents_at}
 use Rattle.hm_ops.proofs.Quiet.{fits_kept, few_kept, hand_taken, keeps_none, roots_kept, same_sight}
 use Rattle.hm_ops.proofs.Settled.{held_name, settled, settled_is, settled_keeps, settled_rests}
-use Rattle.hm_ops.proofs.Walks.{placed_look}
 
 -- what a word that names a version refers to
 record Referred (next : Version) (found : Option Known) (r : Option Name) : Type 0 where
@@ -57,14 +56,15 @@ same_list xs ys n d a b h = ext_get_or d xs ys (a ∙ sym b) (λ i low. h i (ome
 
 module _ {U : Type 0} (lawful : U → PlainStore → Type 0) (allowed : U → PlainStore → Entry → Type 0)
     (m : Made U) where
-  pub rooted_look : (s : Facts U) (v : Version) → Keeps lawful allowed s m → IsRooted s v
-      → Rattle.hm_cells.specs.Facts.IsLookable s v
-  rooted_look s v k rooted = placed_look lawful allowed m s rooted.0 v k rooted.1
+  -- the version at a root place may be looked into
+  pub rooted_look : (s : Facts U) (v : Version) → IsSound lawful allowed s → IsRooted s v → IsLookable s v
+  rooted_look s v sound rooted =
+      held_lookable lawful allowed s v (kept_held lawful allowed s v sound (inl rooted))
 
   -- what it holds has its sizes
   pub rooted_sized : (s : Facts U) (v : Version) → Keeps lawful allowed s m → IsRooted s v
       → IsSized (contents_at s v).refs (contents_at s v).numbers
-  rooted_sized s v k rooted = (known_fit lawful allowed s v k.sound (rooted_look s v k rooted)).sized.contents
+  rooted_sized s v k rooted = (known_fit lawful allowed s v k.sound (rooted_look s v k.sound rooted)).sized.contents
 
   module _ (s t : Facts U) (v : Version) (x : ℕ) (k : Keeps lawful allowed s m)
       (after : IsSound lawful allowed t) where
@@ -160,12 +160,6 @@ module _ {U : Type 0} (lawful : U → PlainStore → Type 0) (allowed : U → Pl
 
           pub next_held : IsHeldAt t next
           next_held = here.0
-
-          pub next_taken : Contains t.hand next
-          next_taken = here.2
-
-          pub some_value : Rattle.std.proofs.Common.true ≡ is_some (reference_at (contents_at s v) i)
-          some_value = sym (ap is_some referred.name)
 
           pub some_read : (into : Root) (p u : Facts U) → IsRootedBeside into.0 s v
               → SetsRoot (sight_of t) (sight_of p) into.0 (place_name t.part.hands.held (Some next))

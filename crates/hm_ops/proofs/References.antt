@@ -15,12 +15,11 @@ use Rattle.hm_core.specs.declared.moving.Act.TheVariants.{LoadReference}
 use Rattle.hm_core.specs.Chain.{IsFit, reference_at}
 use Rattle.hm_core.specs.Good.{IsReference}
 use Rattle.hm_core.specs.Stepping.{field_act}
-use Rattle.hm_cells.specs.Facts.{Facts, Made, IsLookable, IsSound, known_at, place_name}
+use Rattle.hm_cells.specs.Facts.{Facts, Made, IsSound, known_at, place_name}
 use Rattle.hm_cells.specs.Calls as call
-use Rattle.hm_cells.specs.Calls.{taken}
 use Rattle.hm_cells.proofs.Fields.{hand_field, named_in, small_reference}
 use Rattle.hm_cells.proofs.Found.{at_place, same_version}
-use Rattle.hm_cells.proofs.Stepped.{found_held, held_lookable, kept_held, kept_stays, reference_act}
+use Rattle.hm_cells.proofs.Stepped.{found_held, kept_held, kept_stays, reference_act}
 use Rattle.hm_ops.specs.Resting.{IsKept, IsRooted, Keeps, Works}
 use Rattle.hm_ops.specs.Walking.{contents_at}
 use Rattle.hm_ops.specs.Copying.{Stays, TakesReference, TakesReferences, given}
@@ -61,11 +60,6 @@ module _ {A : Type 0} where
 
 module _ {U : Type 0} (lawful : U → PlainStore → Type 0) (allowed : U → PlainStore → Entry → Type 0)
     (m : Made U) where
-  -- the version at a root place may be looked into
-  pub rooted_looked : (s : Facts U) (v : Version) → IsSound lawful allowed s → IsRooted s v → IsLookable s v
-  rooted_looked s v sound rooted = held_lookable lawful allowed s v
-      (kept_held lawful allowed s v sound (inl rooted))
-
   -- one load
   module _ (s t : Facts U) (v : Version) (i x : ℕ) (k : Works lawful allowed s m)
       (after : IsSound lawful allowed t) (rooted : IsRooted s v) (low : i < 4)
@@ -205,15 +199,6 @@ module _ {U : Type 0} (lawful : U → PlainStore → Type 0) (allowed : U → Pl
           last_or_less : (i : ℕ) → Rattle.std.proofs.Common.◌≢◌ i (length vs) → i < length (vs ++ w ∷ [])
               → i < length vs
           last_or_less i ne low = let e = length-append vs (w ∷ []) in omega arith
-
-      -- there is place for one more in the hand
-      pub hand_few : length t.hand ≤ length vs
-      hand_few = subst (λ (l : List Version). length l ≤ length vs) (sym before.hand) (few vs)
-        where
-          few : (xs : List (Option Version)) → length (given xs) ≤ length xs
-          few [] = omega arith
-          few (None ∷ xs) = let h = few xs in omega arith
-          few (Some x ∷ xs) = let h = few xs in omega arith
 
     -- all four
     pub takes_all : (vs : List (Option Version)) (t : Facts U) → length vs ≡ 4 → TakesSome vs t

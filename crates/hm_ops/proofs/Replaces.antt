@@ -6,11 +6,10 @@ use Rattle.hm_model.specs.declared.entry.Entry.{Entry}
 use Rattle.hm_model.specs.declared.entry.Entry.TheVariants.{StoreIf}
 use Rattle.hm_model.specs.declared.root.Root.{Root}
 use Rattle.hm_model.specs.Store.{Numbers, PlainStore}
-use Rattle.hm_model.specs.Sight.{Sight, Places, Continues, MayEnter, names_of, root_of}
+use Rattle.hm_model.specs.Sight.{Sight, Places, MayEnter, names_of, root_of}
 use Rattle.hm_model.specs.Effect.{with_all}
 use Rattle.hm_model.specs.Calls.{FindsChanged, MayStoreIf, StoresAll}
 use Rattle.hm_model.proofs.CallFacts.{finds_changed_enters, stores_all_enters}
-use Rattle.hm_model.proofs.SightFacts.{continues_enters}
 use Rattle.hm_core.specs.declared.part.Known.{Known}
 use Rattle.hm_cells.specs.Facts.{Facts, Made, known_at, room_of, sight_of}
 use Rattle.hm_cells.specs.Calls.{IsWholeCopy}
@@ -18,7 +17,6 @@ use Rattle.hm_ops.specs.Resting.{IsAtPlace, IsRooted, Keeps}
 use Rattle.hm_ops.specs.Walking.{Reads, contents_at}
 use Rattle.hm_ops.specs.Writing.{Roots}
 use Rattle.hm_ops.specs.Storing.{Copies, Ends, tried_at}
-use Rattle.hm_ops.proofs.Quiet.{untended}
 use Rattle.hm_ops.proofs.Settled.{root_named}
 use Rattle.hm_ops.proofs.Stores.{ends_from}
 use Rattle.hm_ops.proofs.Walks.{placed_held}
@@ -90,9 +88,3 @@ module _ {U : Type 0} (lawful : U → PlainStore → Type 0) (allowed : U → Pl
           subst (λ (c : Sight U). FindsChanged lawful allowed c (sight_of t) at stamp refs numbers found) same
           (finds_changed_enters lawful allowed (sight_of p) (sight_of t) at stamp refs numbers found
           (known_at p v).name named ends.entry ends.names room)
-
-      pub ends_continues : (e : Entry) (taken : ℕ) → Ends lawful allowed m p e taken t
-          → Continues lawful allowed (sight_of s) (sight_of t)
-      ends_continues e taken ends =
-          subst (λ (c : Sight U). Continues lawful allowed c (sight_of t)) same
-          (continues_enters lawful allowed (sight_of p) (sight_of t) e ends.entry (untended p t))

@@ -137,9 +137,6 @@ module _ {U : Type 0} (lawful : U → PlainStore → Type 0) (allowed : U → Pl
       pub made_held : IsHeldAt t made
       made_held = here.0
 
-      pub made_taken : Contains t.hand made
-      made_taken = here.2
-
       none_found : took.found ≡ None
       none_found = link_none (known_at s v) took.found took.what
 

@@ -8,10 +8,10 @@ use Rattle.hm_shape.specs.Words.{naming_word}
 use Rattle.hm_model.specs.declared.root.Root.{Root}
 use Rattle.hm_model.specs.declared.entry.Entry.{Entry}
 use Rattle.hm_model.specs.Store.{PlainStore}
-use Rattle.hm_model.specs.Sight.{Places, Sight}
+use Rattle.hm_model.specs.Sight.{Places}
 use Rattle.hm_core.specs.declared.moving.Act.TheVariants.{StoreOwn}
-use Rattle.hm_core.specs.Moving.{is_naming, HasRoom, IsWritten, Names}
-use Rattle.hm_cells.specs.Facts.{Facts, Made, IsSound, known_at, sight_of}
+use Rattle.hm_core.specs.Moving.{is_naming, IsWritten, Names}
+use Rattle.hm_cells.specs.Facts.{Facts, Made, IsSound, known_at}
 use Rattle.hm_cells.specs.Calls.{Takes}
 use Rattle.hm_cells.proofs.Found.{found_there}
 use Rattle.hm_cells.proofs.Stepped.{held_lookable, kept_held, kept_stays, known_version, written_here, written_stays}
@@ -21,12 +21,6 @@ use Rattle.hm_ops.proofs.Quiet.{hand_kept, roots_kept, same_sight, works_none}
 use Rattle.hm_ops.proofs.Settled.{held_known}
 
 module _ {U : Type 0} where
-  -- what others see shows whether there is room
-  pub room_still : (s t : Facts U) → sight_of t ≡ sight_of s → HasRoom s.part → HasRoom t.part
-  room_still s t same room =
-      let rooms = ap (λ (c : Sight U). c.room) same in
-      omega arith
-
   -- the same root places and the same hand keep the same versions
   pub kept_same : (s t : Facts U) → t.roots ≡ s.roots → t.hand ≡ s.hand → (v : Version) → IsKept s v
       → IsKept t v
@@ -64,16 +58,6 @@ module _ {U : Type 0} where
   places_kept s refs words are =
       subst (All (NamesKept s)) (sym are)
       (All-map (NamesKept s) (reference_word s.roots) refs (λ i d low. place_kept s (get_or refs i d)))
-
-  pub wrote_none : (s : Facts U) (first : ℕ) (words : List ℕ) → Writes s first words 0 s
-  wrote_none s first words = record {
-    same = refl;
-    roots = refl;
-    hand = refl;
-    known = λ v kept. refl;
-    here = λ i low. absurd (omega arith);
-    below = λ j w low lasts was. was;
-  }
 
 same_store : (i j w x : ℕ) → StoreOwn i w ≡ StoreOwn j x → i ≡ j
 same_store i j w x e = cc

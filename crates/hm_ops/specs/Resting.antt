@@ -30,10 +30,6 @@ module _ {U : Type 0} where
   abbrev pub IsRooted : Facts U → Version → Type 0
   IsRooted s v = (r : ℕ) × IsAtPlace s r v
 
-  -- a version is kept where a root place or the hand names it
-  abbrev pub IsKept : Facts U → Version → Type 0
-  IsKept s v = IsRooted s v ⊎ Contains s.hand v
-
   -- a root place does other than this one
   abbrev pub IsRootedBeside : ℕ → Facts U → Version → Type 0
   IsRootedBeside place s v = (r : ℕ) × (r ≢ place) × IsAtPlace s r v
@@ -41,6 +37,10 @@ module _ {U : Type 0} where
   -- a root place outside a hand does
   abbrev pub IsRootedOutside : Root → Facts U → Version → Type 0
   IsRootedOutside hand s v = (r : Root) × IsOutside r hand × IsAtPlace s r.0 v
+
+  -- a version is kept where a root place or the hand names it
+  abbrev pub IsKept : Facts U → Version → Type 0
+  IsKept s v = IsRooted s v ⊎ Contains s.hand v
 
   module _ (lawful : U → PlainStore → Type 0) (allowed : U → PlainStore → Entry → Type 0) where
     -- a call leaves its pass at rest, and sound

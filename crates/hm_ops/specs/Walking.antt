@@ -38,7 +38,7 @@ module _ {U : Type 0} where
       pub nearer : ahead m t next < ahead m s v
       pub keeps : Keeps lawful allowed t m
 
-    -- no version lies behind one: an entry is made where it was wanted, else nothing shows to others
+    -- no version lies behind one: the wanted entry is made, and without one nothing shows to others
     pub record IsLast (s : Facts U) (v : Version) (want : Option Entry) (t : Facts U) : Type 0 where
       pub tells : Tells lawful allowed want (sight_of s) (sight_of t)
       pub same : want ≡ None → sight_of t ≡ sight_of s

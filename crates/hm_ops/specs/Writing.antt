@@ -37,7 +37,7 @@ module _ {U : Type 0} where
   abbrev pub name_by : Facts U → ℕ → Option Name
   name_by s w = place_name s.part.hands.held (version_in w)
 
-  -- the first n of these words are written from `first` on, and those before it that last still are;
+  -- the first n of these words are written from `first` on, and those before that last still are;
   -- what is known of the versions that are kept stays
   pub record Writes (s : Facts U) (first : ℕ) (words : List ℕ) (n : ℕ) (t : Facts U)
       : Type 0 where

@@ -19,8 +19,9 @@
 //!     '----'  look: another version
 //! ```
 //!
-//! A conditional store loads the stamp of each version that it comes to. At the given stamp it does the same with all
-//! fields. At another stamp it loads the link, and answers `Changed` where that is 0.
+//! A conditional store loads the stamp of each version that it comes to. At the given stamp it writes a copy with all
+//! fields replaced, without a look at the link, and exchanges the link in the same way. At another stamp it loads the
+//! link, and answers `Changed` where that is 0.
 //!
 //! Each call returns, since ranks rise along links and no rank passes the number of the heap's versions.
 //!

@@ -19,7 +19,7 @@ use hm_shape::Version;
 use std::process::Abort;
 use std::test::Fail;
 
-// The caller's next version is written as a changed copy of a version, which place 0 names.
+// The caller's next version is written as a changed copy of a version, which place 0 names and which has no link.
 fn writes(
     rt: &impl Abort,
     cells: &Cells<AnyUsage>,
@@ -38,6 +38,7 @@ fn writes(
         (turned pass.new (known_at pass.new v) (Store field)) }
 {
     assert!(rt; pass.room() > 0 && pass.root(Root(0)) == Some(v));
+    assert_eq!(rt; look(cells, pass, Root(0), v, Want::Nothing), None);
     copy_changed(cells, pass, v, field);
 }
 

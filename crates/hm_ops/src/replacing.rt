@@ -22,9 +22,9 @@ pub(crate) enum Attempt {
     Changed(u64),
 }
 
-/// Replaces all fields of the object that a place names, on the condition that it still has the given stamp. Where the
-/// caller's room is 0 it answers `Full`, and nothing changes: no step is taken. Where the object has another stamp it
-/// answers `Changed` with that.
+/// Replaces all fields of the object that a place names, and raises its stamp by one, on the condition that it still
+/// has the given stamp. Where the caller's room is 0 it answers `Full`, and nothing changes: no step is taken. Where
+/// the object has another stamp it answers `Changed` with that.
 pub fn store_if<U: Usage>(
     cells: &Cells<U>,
     pass: &mut Pass<U>,

@@ -68,7 +68,8 @@ impl<'c> Runner<'c> {
         }
     }
 
-    // Number 0 of the common object is raised by one, if it is still what was fetched. Answers whether it was.
+    // Number 0 of the common object is raised by one, if the object is still what was fetched. Answers as `store_if`
+    // does, and `Full` also where place 0 is unset.
     fn try_add(&mut self) -> Result<(), StoreIfRefused> {
         let cells = self.cells;
         if !self.pass.is_set(Root(0)) {

@@ -16,8 +16,8 @@ use hm_cells::{Cells, Pass, Want, WantField};
 use hm_model::{Full, Root, Usage};
 use hm_shape::Version;
 
-/// Replaces number `i`, below 10, of the object that a place names. Where the caller's room is 0 it answers `Full`, and
-/// nothing changes: no step is taken.
+/// Replaces number `i`, below 10, of the object that a place names, and raises its stamp by one. Where the caller's
+/// room is 0 it answers `Full`, and nothing changes: no step is taken.
 pub fn store_number<U: Usage>(
     cells: &Cells<U>,
     pass: &mut Pass<U>,
@@ -39,8 +39,8 @@ pub fn store_number<U: Usage>(
     store(cells, pass, at, WantField::Number { i, value })
 }
 
-/// Replaces reference `i`, below 4, of the object that a place names, by what another place names, or by none. Where
-/// the caller's room is 0 it answers `Full`, and nothing changes: no step is taken.
+/// Replaces reference `i`, below 4, of the object that a place names, by what a place names, or by none, and raises its
+/// stamp by one. Where the caller's room is 0 it answers `Full`, and nothing changes: no step is taken.
 pub fn store_ref<U: Usage>(
     cells: &Cells<U>,
     pass: &mut Pass<U>,

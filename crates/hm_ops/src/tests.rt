@@ -1,4 +1,4 @@
-//! Two passes on one thread: what one makes and the other sees of it, and how much room there is.
+//! Two passes on one thread: what one makes or stores and the other sees of it, and how much room there is.
 ghost use Rattle.std.specs.Prelude.{◌≡◌, ◌<◌, ◌≤◌, IfOk, IfSome};
 ghost use Rattle.hm_model.specs.declared.object.Field.TheVariants.{Number};
 ghost use Rattle.hm_model.specs.Sight.{IsSet};

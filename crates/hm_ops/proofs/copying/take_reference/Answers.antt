@@ -1,9 +1,10 @@
-use Rattle.hm_ops.proofs.References.{rooted_looked, takes_one, works_taken}
+use Rattle.hm_ops.proofs.Readings.{rooted_look}
+use Rattle.hm_ops.proofs.References.{takes_one, works_taken}
 use Rattle.hm_ops.proofs.copying.take_reference.Goals as goal
 
 pub load_field-word-requires-clause-look : goal.load_field-word-requires-clause-look
 load_field-word-requires-clause-look g c =
-    rooted_looked g.U.Usage.lawful g.U.Usage.allowed c.args.cells.now c.args.pass.now c.args.v
+    rooted_look g.U.Usage.lawful g.U.Usage.allowed c.args.cells.now c.args.pass.now c.args.v
     c.requires.works.sound c.requires.rooted
 
 pub returns-clause-takes : goal.returns-clause-takes

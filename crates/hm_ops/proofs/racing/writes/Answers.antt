@@ -9,5 +9,5 @@ returns-clause-whole g c =
     let k = c.copy_changed in
     let copies = k.ensures.copies in
     subst (IsWholeCopy k.new.pass.part)
-    (λ i. with_field (field_same k.new.pass c.args.pass.now c.args.field (sym copies.same) i)
+    (λ i. with_field (field_same k.new.pass c.look.new.pass c.args.field (sym copies.same) i)
     (sym copies.known i).contents) copies.whole

@@ -4,7 +4,7 @@ use Rattle.hm_ops.proofs.reading.read_number.Goals as goal
 pub load_field-requires-clause-look : goal.load_field-requires-clause-look
 load_field-requires-clause-look g c =
     rooted_look g.U.Usage.lawful g.U.Usage.allowed c.args.cells.now c.args.pass.now c.args.v
-    c.requires.keeps c.requires.rooted
+    c.requires.keeps.sound c.requires.rooted
 
 pub returns-clause-value : goal.returns-clause-value
 returns-clause-value g c =

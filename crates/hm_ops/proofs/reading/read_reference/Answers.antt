@@ -4,7 +4,7 @@ use Rattle.hm_ops.proofs.reading.read_reference.Goals as goal
 pub load_field-word-requires-clause-look : goal.load_field-word-requires-clause-look
 load_field-word-requires-clause-look g c =
     rooted_look g.U.Usage.lawful g.U.Usage.allowed c.args.cells.now c.args.pass.now c.args.v
-    c.requires.keeps (c.requires.rooted.0, c.requires.rooted.2)
+    c.requires.keeps.sound (c.requires.rooted.0, c.requires.rooted.2)
 
 pub set_root-requires-clause-held : goal.set_root-requires-clause-held
 set_root-requires-clause-held g c =

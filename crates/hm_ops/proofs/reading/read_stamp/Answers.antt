@@ -7,7 +7,7 @@ use Rattle.hm_ops.proofs.reading.read_stamp.Goals as goal
 pub load_field-requires-clause-look : goal.load_field-requires-clause-look
 load_field-requires-clause-look g c =
     rooted_look g.U.Usage.lawful g.U.Usage.allowed c.args.cells.now c.args.pass.now c.args.v
-    c.requires.keeps c.requires.rooted
+    c.requires.keeps.sound c.requires.rooted
 
 pub returns-clause-reads : goal.returns-clause-reads
 returns-clause-reads g c =

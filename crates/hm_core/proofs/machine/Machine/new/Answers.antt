@@ -1,13 +1,13 @@
 -- A fresh machine is sound.
-use Rattle.std.proofs.Common.{◌≡◌, List, length, All, sym, ap, ◌∙◌, subst, arith, []}
+use Rattle.std.proofs.Common.{◌≡◌, List, length, All, refl, sym, ap, ◌∙◌, subst, arith, []}
 use Rattle.hm_model.specs.declared.entry.Entry.{Entry}
 use Rattle.hm_model.specs.History.{AllStand}
 use Rattle.hm_model.proofs.Openings.{opening_stands}
 use Rattle.hm_core.specs.declared.part.Known.{Known}
-use Rattle.hm_core.specs.Running.{Moment, site_of, core_of, IsSound}
+use Rattle.hm_core.specs.Running.{Moment, IsSound}
 use Rattle.hm_core.specs.Chronicles.{ChronicleState}
-use Rattle.hm_core.specs.Fresh.{all_known, IsFreshCore}
-use Rattle.hm_core.specs.Firsts.{IsWritable, creates_of}
+use Rattle.hm_core.specs.Fresh.{all_known}
+use Rattle.hm_core.specs.Firsts.{IsFreshMachine, IsWritable, creates_of}
 use Rattle.hm_core.proofs.Fresh.{many}
 use Rattle.hm_core.proofs.FirstMoment.{first_sound, first_fresh, moment_is}
 use Rattle.hm_core.proofs.FirstWords.{first_writable, opening_created}
@@ -57,5 +57,7 @@ returns-clause-fresh c =
     c.objects-count.ensures.count c.in_ok-used.ensures
     (ap (λ (z : ChronicleState). z.entries) c.in_ok-chronicle.ensures)
     c.in_ok-hands.ensures c.in_ok-seats.ensures c.count.ensures in
-    subst (λ (m : Moment). IsFreshCore (site_of m) (core_of m)) (sym is)
-    (first_fresh c.args.shape c.args.start c.objects-count.ensures.sized c.requires)
+    subst IsFreshMachine (sym is) record {
+      core = first_fresh c.args.shape c.args.start c.objects-count.ensures.sized c.requires;
+      seats = refl;
+    }
