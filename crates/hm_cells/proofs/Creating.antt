@@ -4,10 +4,10 @@ use native.Mathlib.Decide.{ℕ_discrete}
 use mathlib.Core.Logic.{dite}
 use Rattle.hm_model.specs.declared.entry.Entry.{Entry}
 use Rattle.hm_model.specs.Store.{PlainStore}
-use Rattle.hm_core.specs.declared.part.Known.{Known}
-use Rattle.hm_core.specs.declared.moving.Act.{Act}
-use Rattle.hm_core.specs.declared.moving.Act.TheVariants.{StoreOwn}
-use Rattle.hm_core.specs.Moving.{HasRoom, IsWritten}
+use Rattle.hm_moves.specs.declared.part.Known.{Known}
+use Rattle.hm_moves.specs.declared.moving.Act.{Act}
+use Rattle.hm_moves.specs.declared.moving.Act.TheVariants.{StoreOwn}
+use Rattle.hm_moves.specs.Moving.{HasRoom, IsWritten}
 use Rattle.hm_cells.specs.Facts.{Facts, Fits, IsAtRest, IsSound, Made}
 use Rattle.hm_cells.specs.Calls.{IsWhole, Takes, taken}
 use Rattle.hm_cells.proofs.Stepped.{held_few, written_here, written_stays}

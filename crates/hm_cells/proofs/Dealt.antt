@@ -5,14 +5,14 @@ use Rattle.std.proofs.lemmas.List.{length-replicate}
 use Rattle.std.proofs.lemmas.List.Elements.{All-append, All-cons, All-nil}
 use Rattle.hm_shape.specs.declared.version.Version.{Version}
 use Rattle.hm_model.specs.Sight.{IsFresh}
-use Rattle.hm_core.specs.declared.part.Known.{Known}
+use Rattle.hm_moves.specs.declared.part.Known.{Known}
 use Rattle.atomic_table.specs.Seated.{TableId}
 use Rattle.hm_model.specs.History.{opening_of}
-use Rattle.hm_core.specs.declared.part.Site.{Site}
-use Rattle.hm_core.specs.declared.part.Part.{Part}
-use Rattle.hm_core.specs.declared.part.View.{View}
-use Rattle.hm_core.specs.Fresh.{common_known, fresh_part}
-use Rattle.hm_core.specs.Moving.{view}
+use Rattle.hm_moves.specs.declared.part.Site.{Site}
+use Rattle.hm_moves.specs.declared.part.Part.{Part}
+use Rattle.hm_moves.specs.declared.part.View.{View}
+use Rattle.hm_moves.specs.Fresh.{common_known, fresh_part}
+use Rattle.hm_moves.specs.Moving.{view}
 use Rattle.hm_cells.specs.Facts.{Facts, Fits, IsAtRest, place_name, sight_of}
 use Rattle.hm_cells.specs.Making.{back, first_roots, fresh_pass, fresh_passes, front, newcomer, newcomers}
 use Rattle.hm_cells.proofs.Found.{there_is}

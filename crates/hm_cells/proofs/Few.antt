@@ -5,11 +5,11 @@ use Rattle.std.specs.List.{list_any}
 use Rattle.std.specs.Option.{option_map}
 use Rattle.std.proofs.lemmas.List.{length-map}
 use Rattle.hm_shape.specs.declared.version.Version.{Version}
-use Rattle.hm_core.specs.declared.part.Known.{Known}
-use Rattle.hm_core.specs.declared.moving.Act.{Act}
-use Rattle.hm_core.specs.declared.moving.Act.TheVariants.{LoadStamp, LoadReference, LoadNumber, LoadLink, StoreOwn, Publish, LinkStore}
-use Rattle.hm_core.specs.Moving.{is_version, publishes, without, with_held}
-use Rattle.hm_core.specs.Good.{Found, IsLink}
+use Rattle.hm_moves.specs.declared.part.Known.{Known}
+use Rattle.hm_moves.specs.declared.moving.Act.{Act}
+use Rattle.hm_moves.specs.declared.moving.Act.TheVariants.{LoadStamp, LoadReference, LoadNumber, LoadLink, StoreOwn, Publish, LinkStore}
+use Rattle.hm_moves.specs.Moving.{is_version, publishes, without, with_held}
+use Rattle.hm_moves.specs.Good.{Found, IsLink}
 use Rattle.hm_cells.specs.Facts.{AreApart, first_idle, is_kept}
 use Rattle.hm_cells.proofs.Found.{any_none, find_none, held_after}
 use Rattle.hm_cells.proofs.Ready.{idle_held}

@@ -10,14 +10,14 @@ use Rattle.hm_shape.specs.Versions.{version_count}
 use Rattle.hm_shape.specs.Words.{word_at, naming_word}
 use Rattle.hm_model.specs.declared.object.Name.{Name}
 use Rattle.hm_model.specs.declared.entry.Entry.{Entry}
-use Rattle.hm_core.specs.declared.part.Known.{Known}
-use Rattle.hm_core.specs.declared.part.Part.{Part}
-use Rattle.hm_core.specs.declared.moving.Act.{Act}
-use Rattle.hm_core.specs.declared.moving.Act.TheVariants.{LoadStamp, LoadReference, LoadNumber, LoadLink}
-use Rattle.hm_core.specs.Chain.{IsFit}
-use Rattle.hm_core.specs.Moving.{word_of, becomes, publishes, HasHand, MayHold, MayLookInto, MayTake}
-use Rattle.hm_core.specs.Good.{Found, IsReference, IsLink}
-use Rattle.hm_core.specs.Stepping.{field_act}
+use Rattle.hm_moves.specs.declared.part.Known.{Known}
+use Rattle.hm_moves.specs.declared.part.Part.{Part}
+use Rattle.hm_moves.specs.declared.moving.Act.{Act}
+use Rattle.hm_moves.specs.declared.moving.Act.TheVariants.{LoadStamp, LoadReference, LoadNumber, LoadLink}
+use Rattle.hm_moves.specs.Chain.{IsFit}
+use Rattle.hm_moves.specs.Moving.{word_of, becomes, publishes, HasHand, MayHold, MayLookInto, MayTake}
+use Rattle.hm_moves.specs.Good.{Found, IsReference, IsLink}
+use Rattle.hm_moves.specs.Moving.{field_act}
 use Rattle.hm_cells.specs.Calls.{taken, version_in}
 
 -- a word from 1 to 15 is the stamp, a reference or a number

@@ -12,9 +12,9 @@ use Rattle.hm_model.specs.declared.object.Start.{Start}
 use Rattle.hm_model.specs.Store.{Numbers, Refs}
 use Rattle.hm_model.specs.Effect.{new_contents}
 use Rattle.hm_model.specs.History.{side_count, side_names, starting_count, starting_name, IsSizedStart}
-use Rattle.hm_core.specs.declared.part.Known.{Known}
-use Rattle.hm_core.specs.Chain.{HasContents, IsPublished, Refers, reference_at}
-use Rattle.hm_core.specs.Fresh.{all_known, common_known, fresh_index, side_known, starting_known}
+use Rattle.hm_moves.specs.declared.part.Known.{Known}
+use Rattle.hm_moves.specs.Chain.{HasContents, IsPublished, Refers, reference_at}
+use Rattle.hm_moves.specs.Fresh.{all_known, common_known, fresh_index, side_known, starting_known}
 use Rattle.hm_cells.specs.Making.{AreFirst, LaysSide, version_words}
 use Rattle.hm_cells.proofs.Fresh.{all_length, last_of, side_count-some, sides_length}
 

@@ -5,8 +5,8 @@ use Rattle.std.specs.List.{find, list_any}
 use Rattle.std.specs.Option.{option_map}
 use Rattle.std.proofs.lemmas.List.Folds.{find-append, list_any-append}
 use Rattle.hm_shape.specs.declared.version.Version.{Version}
-use Rattle.hm_core.specs.declared.part.Known.{Known}
-use Rattle.hm_core.specs.Moving.{is_version, without, with_held}
+use Rattle.hm_moves.specs.declared.part.Known.{Known}
+use Rattle.hm_moves.specs.Moving.{is_version, without, with_held}
 use Rattle.hm_cells.specs.Facts.{find_version, IsAmong, place_name, is_kept, first_idle, AreApart}
 
 module _ {X : Type 0} where

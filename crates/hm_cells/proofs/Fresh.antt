@@ -13,10 +13,10 @@ use Rattle.hm_model.specs.declared.object.Start.{Start}
 use Rattle.hm_model.specs.declared.entry.Entry.{Entry}
 use Rattle.hm_model.specs.Store.{Numbers, PlainStore}
 use Rattle.hm_model.specs.History.{opening_of, side_count, starting_count}
-use Rattle.hm_core.specs.declared.part.Known.{Known}
-use Rattle.hm_core.specs.declared.part.Site.{Site}
-use Rattle.hm_core.specs.declared.part.Part.{Part}
-use Rattle.hm_core.specs.Fresh.{all_known, common_known, fresh_part, side_known}
+use Rattle.hm_moves.specs.declared.part.Known.{Known}
+use Rattle.hm_moves.specs.declared.part.Site.{Site}
+use Rattle.hm_moves.specs.declared.part.Part.{Part}
+use Rattle.hm_moves.specs.Fresh.{all_known, common_known, fresh_part, side_known}
 use Rattle.hm_cells.specs.declared.knowledge.Knowledge.{Knowledge}
 use Rattle.hm_cells.specs.Grips.{Gripped}
 use Rattle.hm_cells.specs.Facts.{IsAmong, IsSound, IsSure}
@@ -43,7 +43,7 @@ sides_number : (k : ℕ) (sides : List (Option Numbers)) (i : ℕ) (m : Known)
 sides_number k [] i m e = absurd (cc)
 sides_number k (None ∷ sides) i m e = sides_number k sides i m e
 sides_number k (Some numbers ∷ sides) zero m e =
-    let is : Rattle.hm_core.specs.Fresh.starting_known k (Rattle.hm_model.specs.Effect.new_contents
+    let is : Rattle.hm_moves.specs.Fresh.starting_known k (Rattle.hm_model.specs.Effect.new_contents
     (replicate 4 None) numbers) ≡ m = cc in
     ap (λ (z : Known). z.version.0) (sym is) ∙ omega arith
 sides_number k (Some numbers ∷ sides) (suc i) m e =

@@ -11,21 +11,21 @@ use Rattle.hm_model.specs.Store.{PlainStore, IsThere}
 use Rattle.hm_model.specs.Effect.{Stands}
 use Rattle.hm_model.specs.History.{store_of}
 use Rattle.hm_model.specs.Lawful.{UsageLaws}
-use Rattle.hm_core.specs.declared.part.Known.{Known}
-use Rattle.hm_core.specs.declared.part.Site.{Site}
-use Rattle.hm_core.specs.declared.part.Part.{Part}
-use Rattle.hm_core.specs.declared.part.View.{View}
-use Rattle.hm_core.specs.declared.moving.Move.{Move}
-use Rattle.hm_core.specs.Chain.{Index, IsPublished}
-use Rattle.hm_core.specs.Moving.{word_of, publishes, finds, index_with, is_version, without, with_held, next_version, part_after, view_after, Enabled, HasRoom, IsLawfulMove}
-use Rattle.hm_core.specs.Good.{Begins, Found, PartIsGood, Core, Good, Carries, applied}
-use Rattle.hm_core.proofs.Histories.{others_only}
-use Rattle.hm_core.proofs.Placed.{published_once}
-use Rattle.hm_core.proofs.Held.{held_stays}
-use Rattle.hm_core.proofs.Finding.{entry_by, found_now, fresh_now, next_now, index_more, index_here}
-use Rattle.hm_core.proofs.Places.{set_here}
-use Rattle.hm_core.proofs.Steps.{good_step}
-use Rattle.hm_core.proofs.Enabling.{enabled_lawful}
+use Rattle.hm_moves.specs.declared.part.Known.{Known}
+use Rattle.hm_moves.specs.declared.part.Site.{Site}
+use Rattle.hm_moves.specs.declared.part.Part.{Part}
+use Rattle.hm_moves.specs.declared.part.View.{View}
+use Rattle.hm_moves.specs.declared.moving.Move.{Move}
+use Rattle.hm_moves.specs.Chain.{Index, IsPublished}
+use Rattle.hm_moves.specs.Moving.{word_of, publishes, finds, index_with, is_version, without, with_held, next_version, part_after, view_after, Enabled, HasRoom, IsLawfulMove}
+use Rattle.hm_moves.specs.Good.{Begins, Found, PartIsGood, Core, Good, Carries, applied}
+use Rattle.hm_moves.proofs.Histories.{others_only}
+use Rattle.hm_moves.proofs.Placed.{published_once}
+use Rattle.hm_moves.proofs.Held.{held_stays}
+use Rattle.hm_moves.proofs.Finding.{entry_by, found_now, fresh_now, next_now, index_more, index_here}
+use Rattle.hm_moves.proofs.Places.{set_here}
+use Rattle.hm_moves.proofs.Steps.{good_step}
+use Rattle.hm_moves.proofs.Enabling.{enabled_lawful}
 use Rattle.hm_cells.specs.declared.knowledge.Knowledge.{Knowledge}
 use Rattle.hm_cells.specs.Shows.{Learnt, knowledge}
 use Rattle.hm_cells.proofs.Sure.{sure_of}

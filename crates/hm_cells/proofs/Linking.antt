@@ -12,12 +12,12 @@ use Rattle.hm_model.specs.declared.root.Root.{Root}
 use Rattle.hm_model.specs.declared.entry.Entry.{Entry}
 use Rattle.hm_model.specs.Store.{PlainStore}
 use Rattle.hm_model.specs.Sight.{MayEnter, name_of}
-use Rattle.hm_core.specs.declared.part.Known.{Known}
-use Rattle.hm_core.specs.declared.moving.Act.{Act}
-use Rattle.hm_core.specs.declared.moving.Act.TheVariants.{LinkStore}
-use Rattle.hm_core.specs.Chain.{IsFit}
-use Rattle.hm_core.specs.Moving.{IsKnownField, IsKnownName, MayMake, Turns, HasHand, HasRoom, becomes, count_of, part_after, publishes}
-use Rattle.hm_core.specs.Good.{IsLink}
+use Rattle.hm_moves.specs.declared.part.Known.{Known}
+use Rattle.hm_moves.specs.declared.moving.Act.{Act}
+use Rattle.hm_moves.specs.declared.moving.Act.TheVariants.{LinkStore}
+use Rattle.hm_moves.specs.Chain.{IsFit}
+use Rattle.hm_moves.specs.Moving.{IsKnownField, IsKnownName, MayMake, Turns, HasHand, HasRoom, becomes, count_of, part_after, publishes}
+use Rattle.hm_moves.specs.Good.{IsLink}
 use Rattle.hm_cells.specs.declared.knowledge.Knowledge.{Knowledge}
 use Rattle.hm_cells.specs.declared.want.Want.{Want}
 use Rattle.hm_cells.specs.declared.want.Want.TheVariants.{Nothing, Fetch, Store, StoreIf}

@@ -8,13 +8,13 @@ use Rattle.hm_shape.specs.Versions.{IsVersionOf}
 use Rattle.hm_shape.specs.Words.{word_at, naming_word}
 use Rattle.hm_model.specs.declared.entry.Entry.{Entry}
 use Rattle.hm_model.specs.Store.{PlainStore}
-use Rattle.hm_core.specs.declared.part.Known.{Known}
-use Rattle.hm_core.specs.declared.part.Site.{Site}
-use Rattle.hm_core.specs.declared.moving.Act.{Act}
-use Rattle.hm_core.specs.declared.moving.Act.TheVariants.{LoadLink}
-use Rattle.hm_core.specs.Chain.{IsFit}
-use Rattle.hm_core.specs.Moving.{IsKnownName, MayMake, Reads, HasHand, count_of, part_after, publishes}
-use Rattle.hm_core.specs.Stepping.{field_act}
+use Rattle.hm_moves.specs.declared.part.Known.{Known}
+use Rattle.hm_moves.specs.declared.part.Site.{Site}
+use Rattle.hm_moves.specs.declared.moving.Act.{Act}
+use Rattle.hm_moves.specs.declared.moving.Act.TheVariants.{LoadLink}
+use Rattle.hm_moves.specs.Chain.{IsFit}
+use Rattle.hm_moves.specs.Moving.{IsKnownName, MayMake, Reads, HasHand, count_of, part_after, publishes}
+use Rattle.hm_moves.specs.Moving.{field_act}
 use Rattle.hm_cells.specs.declared.knowledge.Knowledge.{Knowledge}
 use Rattle.hm_cells.specs.Grips.{Gripped}
 use Rattle.hm_cells.specs.Facts.{Facts, Fits, Made, IsLookable, known_at}

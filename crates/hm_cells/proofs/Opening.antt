@@ -8,13 +8,13 @@ use Rattle.atomic_table.specs.Table.{opening}
 use Rattle.hm_model.specs.declared.entry.Entry.{Entry}
 use Rattle.hm_model.specs.Store.{PlainStore}
 use Rattle.hm_model.specs.History.{store_of, opening_of, starting_count, IsSizedStart}
-use Rattle.hm_core.specs.declared.part.Site.{Site}
-use Rattle.hm_core.specs.declared.part.Part.{Part}
-use Rattle.hm_core.specs.declared.part.View.{View}
-use Rattle.hm_core.specs.Good.{Begins, Core, Good, Carries}
-use Rattle.hm_core.specs.Fresh.{fresh_index, fresh_part, fresh_used, IsFreshCore}
-use Rattle.hm_core.proofs.Fresh.{good_fresh}
-use Rattle.hm_core.proofs.Places.{at_end, at_later, at_longer}
+use Rattle.hm_moves.specs.declared.part.Site.{Site}
+use Rattle.hm_moves.specs.declared.part.Part.{Part}
+use Rattle.hm_moves.specs.declared.part.View.{View}
+use Rattle.hm_moves.specs.Good.{Begins, Core, Good, Carries}
+use Rattle.hm_moves.specs.Fresh.{fresh_index, fresh_part, fresh_used, IsFreshCore}
+use Rattle.hm_moves.proofs.Fresh.{good_fresh}
+use Rattle.hm_moves.proofs.Places.{at_end, at_later, at_longer}
 use Rattle.hm_cells.specs.declared.knowledge.Knowledge.{Knowledge}
 use Rattle.hm_cells.specs.Facts.{IsSure}
 use Rattle.hm_cells.specs.Shows.{Shows, knowledge}

@@ -9,18 +9,18 @@ use Rattle.atomic_table.proofs.Lists.{at_map, at_snoc}
 use Rattle.hm_model.specs.declared.entry.Entry.{Entry}
 use Rattle.hm_model.specs.Store.{PlainStore}
 use Rattle.hm_model.specs.Lawful.{UsageLaws}
-use Rattle.hm_core.specs.declared.part.Known.{Known}
-use Rattle.hm_core.specs.declared.part.Site.{Site}
-use Rattle.hm_core.specs.declared.part.Part.{Part}
-use Rattle.hm_core.specs.declared.part.View.{View}
-use Rattle.hm_core.specs.declared.moving.Move.{Move}
-use Rattle.hm_core.specs.Moving.{word_of, becomes, entry_of, listed, view, view_after, finds, Enabled}
-use Rattle.hm_core.specs.Good.{Begins, Core, Good, Carries, applied, split, joined, joined_view, longer, spent_view}
-use Rattle.hm_core.proofs.Histories.{begins_more, left_begins}
-use Rattle.hm_core.proofs.Places.{at_set, set_else}
-use Rattle.hm_core.proofs.Steps.{good_step}
-use Rattle.hm_core.proofs.Seats.{good_split, good_join}
-use Rattle.hm_core.proofs.Enabling.{enabled_lawful}
+use Rattle.hm_moves.specs.declared.part.Known.{Known}
+use Rattle.hm_moves.specs.declared.part.Site.{Site}
+use Rattle.hm_moves.specs.declared.part.Part.{Part}
+use Rattle.hm_moves.specs.declared.part.View.{View}
+use Rattle.hm_moves.specs.declared.moving.Move.{Move}
+use Rattle.hm_moves.specs.Moving.{word_of, becomes, entry_of, listed, view, view_after, finds, Enabled}
+use Rattle.hm_moves.specs.Good.{Begins, Core, Good, Carries, applied, split, joined, joined_view, longer, spent_view}
+use Rattle.hm_moves.proofs.Histories.{begins_more, left_begins}
+use Rattle.hm_moves.proofs.Places.{at_set, set_else}
+use Rattle.hm_moves.proofs.Steps.{good_step}
+use Rattle.hm_moves.proofs.Seats.{good_split, good_join}
+use Rattle.hm_moves.proofs.Enabling.{enabled_lawful}
 use Rattle.hm_cells.specs.declared.knowledge.Knowledge.{Knowledge}
 use Rattle.hm_cells.specs.Shows.{Shows, Learnt, Learns, Looked, Looks, IsReady, Loads, Stores, Exchanges, knowledge, looking, noted, met, spent}
 use Rattle.hm_cells.specs.Making.{front, back}

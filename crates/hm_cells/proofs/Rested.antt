@@ -6,10 +6,10 @@ use Rattle.hm_shape.specs.declared.shape.Shape.{Shape}
 use Rattle.hm_shape.specs.declared.version.Version.{Version}
 use Rattle.hm_model.specs.declared.entry.Entry.{Entry}
 use Rattle.hm_model.specs.Store.{PlainStore}
-use Rattle.hm_core.specs.declared.part.Known.{Known}
-use Rattle.hm_core.specs.declared.part.Part.{Part}
-use Rattle.hm_core.specs.Moving.{without}
-use Rattle.hm_core.specs.Good.{Begins, longer}
+use Rattle.hm_moves.specs.declared.part.Known.{Known}
+use Rattle.hm_moves.specs.declared.part.Part.{Part}
+use Rattle.hm_moves.specs.Moving.{without}
+use Rattle.hm_moves.specs.Good.{Begins, longer}
 use Rattle.hm_cells.specs.declared.knowledge.Knowledge.{Knowledge}
 use Rattle.hm_cells.specs.Grips.{Gripped}
 use Rattle.hm_cells.specs.Facts.{Facts, IsAmong, IsSound, IsSure, find_version, first_idle, names_at, sight_of}

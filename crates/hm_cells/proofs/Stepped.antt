@@ -6,12 +6,12 @@ use Rattle.hm_shape.specs.declared.version.Version.{Version}
 use Rattle.hm_shape.specs.Words.{naming_word}
 use Rattle.hm_model.specs.declared.entry.Entry.{Entry}
 use Rattle.hm_model.specs.Store.{PlainStore}
-use Rattle.hm_core.specs.declared.part.Known.{Known}
-use Rattle.hm_core.specs.declared.moving.Act.{Act}
-use Rattle.hm_core.specs.declared.moving.Act.TheVariants.{LoadStamp, LoadReference, LoadNumber, LoadLink, StoreOwn, Publish, LinkStore}
-use Rattle.hm_core.specs.Chain.{IsFit}
-use Rattle.hm_core.specs.Moving.{publishes, is_naming, listed, unless_named, unnamed_from, unnamed, written_with, IsWritten}
-use Rattle.hm_core.specs.Stepping.{field_act}
+use Rattle.hm_moves.specs.declared.part.Known.{Known}
+use Rattle.hm_moves.specs.declared.moving.Act.{Act}
+use Rattle.hm_moves.specs.declared.moving.Act.TheVariants.{LoadStamp, LoadReference, LoadNumber, LoadLink, StoreOwn, Publish, LinkStore}
+use Rattle.hm_moves.specs.Chain.{IsFit}
+use Rattle.hm_moves.specs.Moving.{publishes, is_naming, listed, unless_named, unnamed_from, unnamed, written_with, IsWritten}
+use Rattle.hm_moves.specs.Moving.{field_act}
 use Rattle.hm_cells.specs.Facts.{Facts, IsHeldAt, IsLookable, IsSound, find_version, first_idle, known_at, lookable, nothing_known}
 use Rattle.hm_cells.specs.Calls.{Takes, taken}
 use Rattle.hm_cells.proofs.Fields.{field_cases}

@@ -11,12 +11,12 @@ use Rattle.hm_model.specs.declared.object.Name.{Name}
 use Rattle.hm_model.specs.declared.entry.Entry.{Entry}
 use Rattle.hm_model.specs.declared.entry.Entry.TheVariants.{Create}
 use Rattle.hm_model.specs.Store.{PlainStore}
-use Rattle.hm_core.specs.declared.part.Known.{Known}
-use Rattle.hm_core.specs.declared.part.Site.{Site}
-use Rattle.hm_core.specs.declared.part.Part.{Part}
-use Rattle.hm_core.specs.declared.moving.Act.TheVariants.{StoreOwn, Publish}
-use Rattle.hm_core.specs.Chain.{reference_at}
-use Rattle.hm_core.specs.Moving.{IsFirst, IsKnownName, IsWritten, MayMake, Names, Spells, HasHand, HasRoom, is_naming, next_name, next_version}
+use Rattle.hm_moves.specs.declared.part.Known.{Known}
+use Rattle.hm_moves.specs.declared.part.Site.{Site}
+use Rattle.hm_moves.specs.declared.part.Part.{Part}
+use Rattle.hm_moves.specs.declared.moving.Act.TheVariants.{StoreOwn, Publish}
+use Rattle.hm_moves.specs.Chain.{reference_at}
+use Rattle.hm_moves.specs.Moving.{IsFirst, IsKnownName, IsWritten, MayMake, Names, Spells, HasHand, HasRoom, is_naming, next_name, next_version}
 use Rattle.hm_cells.specs.declared.knowledge.Knowledge.{Knowledge}
 use Rattle.hm_cells.specs.Grips.{Gripped}
 use Rattle.hm_cells.specs.Facts.{Facts, Fits, Made, IsSound, find_version, place_name}

@@ -4,17 +4,17 @@ use mathlib.Core.Option.{some}
 use lib.ListN.{get_elem?}
 use Rattle.hm_model.specs.declared.entry.Entry.{Entry}
 use Rattle.hm_model.specs.Store.{PlainStore}
-use Rattle.hm_core.specs.declared.part.Known.{Known}
-use Rattle.hm_core.specs.declared.part.Site.{Site}
-use Rattle.hm_core.specs.declared.part.Part.{Part}
-use Rattle.hm_core.specs.declared.part.View.{View}
-use Rattle.hm_core.specs.Chain.{IsPublished, row_count, row_of}
-use Rattle.hm_core.specs.Moving.{MayLookInto, view}
-use Rattle.hm_core.specs.Good.{Begins, PartIsGood, Core, Good, Carries}
-use Rattle.hm_core.proofs.Histories.{lawful_before}
-use Rattle.hm_core.proofs.Placed.{total_small, published_once}
-use Rattle.hm_core.proofs.Held.{without_held, unnamed_wide, unnamed_was, names_without}
-use Rattle.hm_core.proofs.Places.{at_set, set_here}
+use Rattle.hm_moves.specs.declared.part.Known.{Known}
+use Rattle.hm_moves.specs.declared.part.Site.{Site}
+use Rattle.hm_moves.specs.declared.part.Part.{Part}
+use Rattle.hm_moves.specs.declared.part.View.{View}
+use Rattle.hm_moves.specs.Chain.{IsPublished, row_count, row_of}
+use Rattle.hm_moves.specs.Moving.{MayLookInto, view}
+use Rattle.hm_moves.specs.Good.{Begins, PartIsGood, Core, Good, Carries}
+use Rattle.hm_moves.proofs.Histories.{lawful_before}
+use Rattle.hm_moves.proofs.Placed.{total_small, published_once}
+use Rattle.hm_moves.proofs.Held.{without_held, unnamed_wide, unnamed_was, names_without}
+use Rattle.hm_moves.proofs.Places.{at_set, set_here}
 use Rattle.hm_cells.specs.Facts.{IsSure}
 use Rattle.hm_cells.specs.Calls.{letting}
 
@@ -103,7 +103,7 @@ module _ {U : Type 0} (lawful : U → PlainStore → Type 0) (allowed : U → Pl
         (at_set (p ∷ []) 0 k (letting p o) q there)
       where
         none : (k : ℕ) (q : Part U) → get_elem? (p ∷ []) k ≡ some q → k ≡ 0
-        none k q there = let h = Rattle.hm_core.proofs.Places.at_below (p ∷ []) k q there in omega arith
+        none k q there = let h = Rattle.hm_moves.proofs.Places.at_below (p ∷ []) k q there in omega arith
 
     stood : (j k : ℕ) (u : View U) (q : Part U) → Carries rested_core.views j k u q → Stood j k u q
     stood j k u q t = ⊎_elim

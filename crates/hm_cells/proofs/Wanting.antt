@@ -9,9 +9,9 @@ use Rattle.hm_model.specs.declared.entry.Entry.{Entry}
 use Rattle.hm_model.specs.Store.{PlainStore}
 use Rattle.hm_model.specs.Lawful.{UsageLaws}
 use Rattle.hm_model.specs.Sight.{name_at, name_of, names_of}
-use Rattle.hm_core.specs.declared.part.Known.{Known}
-use Rattle.hm_core.specs.declared.part.Part.{Part}
-use Rattle.hm_core.specs.Moving.{AreKnown, IsKnownName, MayMake, Reads}
+use Rattle.hm_moves.specs.declared.part.Known.{Known}
+use Rattle.hm_moves.specs.declared.part.Part.{Part}
+use Rattle.hm_moves.specs.Moving.{AreKnown, IsKnownName, MayMake, Reads}
 use Rattle.hm_cells.specs.declared.want.Want.{Want}
 use Rattle.hm_cells.specs.declared.want.Want.TheVariants.{Nothing, Fetch, Store, StoreIf}
 use Rattle.hm_cells.specs.Facts.{Facts, find_version, place_name, sight_of}

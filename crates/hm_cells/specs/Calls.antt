@@ -15,13 +15,13 @@ use Rattle.hm_model.specs.Store.{Refs, Numbers, PlainStore}
 use Rattle.hm_model.specs.Effect.{with_field, with_all}
 use Rattle.hm_model.specs.History.{AreOthers}
 use Rattle.hm_model.specs.Sight.{Sight, AreSet, IsSet, name_of, names_of, Goes, Enters, MayEnter}
-use Rattle.hm_core.specs.declared.part.Known.{Known}
-use Rattle.hm_core.specs.declared.part.Part.{Part}
-use Rattle.hm_core.specs.declared.moving.Act.{Act}
-use Rattle.hm_core.specs.declared.moving.Move.{Move}
-use Rattle.hm_core.specs.Moving.{entry_of, publishes, listed, part_after, seen_after, unnamed, without, next_name, next_version, IsWritten, IsBuilt}
-use Rattle.hm_core.specs.Good.{Found, longer}
-use Rattle.hm_core.specs.Stepping.{AreWrittenFrom}
+use Rattle.hm_moves.specs.declared.part.Known.{Known}
+use Rattle.hm_moves.specs.declared.part.Part.{Part}
+use Rattle.hm_moves.specs.declared.moving.Act.{Act}
+use Rattle.hm_moves.specs.declared.moving.Move.{Move}
+use Rattle.hm_moves.specs.Moving.{entry_of, publishes, listed, part_after, seen_after, unnamed, without, next_name, next_version, IsWritten, IsBuilt}
+use Rattle.hm_moves.specs.Good.{Found, longer}
+use Rattle.hm_moves.specs.Moving.{AreWrittenFrom}
 use Rattle.hm_cells.specs.declared.want.Want.{Want}
 use Rattle.hm_cells.specs.declared.want.WantField.{WantField}
 use Rattle.hm_cells.specs.declared.want.WantField.TheVariants as want

@@ -13,12 +13,12 @@ use Rattle.hm_model.specs.Store.{PlainStore}
 use Rattle.hm_model.specs.History.{calls_of, opening_of}
 use Rattle.hm_model.specs.Lawful.{IsLawful}
 use Rattle.hm_model.specs.Sight.{Sight}
-use Rattle.hm_core.specs.declared.part.Known.{Known}
-use Rattle.hm_core.specs.declared.part.Site.{Site}
-use Rattle.hm_core.specs.declared.part.Part.{Part}
-use Rattle.hm_core.specs.Chain.{IsFit}
-use Rattle.hm_core.specs.Moving.{is_naming, is_version, IsWritten, Names, MayLookInto}
-use Rattle.hm_core.specs.Good.{Begins}
+use Rattle.hm_moves.specs.declared.part.Known.{Known}
+use Rattle.hm_moves.specs.declared.part.Site.{Site}
+use Rattle.hm_moves.specs.declared.part.Part.{Part}
+use Rattle.hm_moves.specs.Chain.{IsFit}
+use Rattle.hm_moves.specs.Moving.{is_naming, is_version, IsWritten, Names, MayLookInto}
+use Rattle.hm_moves.specs.Good.{Begins}
 
 -- which cells, and what all their seats agree on
 pub record Made (U : Type 0) : Type 0 where

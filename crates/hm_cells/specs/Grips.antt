@@ -1,7 +1,7 @@
 -- What contracts see of a grip.
 use Rattle.std.specs.Prelude.{List, Option}
 use Rattle.hm_shape.specs.declared.version.Version.{Version}
-use Rattle.hm_core.specs.declared.part.Site.{Site}
+use Rattle.hm_moves.specs.declared.part.Site.{Site}
 use Rattle.hm_cells.specs.declared.knowledge.Holding.{Holding}
 use Rattle.hm_cells.specs.declared.knowledge.Opening.{Opening}
 

@@ -7,12 +7,12 @@ use Rattle.hm_shape.specs.Words.{word_count}
 use Rattle.hm_model.specs.declared.object.Start.{Start}
 use Rattle.hm_model.specs.Store.{Numbers}
 use Rattle.hm_model.specs.History.{opening_of, starting_count, IsSizedStart}
-use Rattle.hm_core.specs.declared.part.Site.{Site}
-use Rattle.hm_core.specs.declared.part.Part.{Part}
-use Rattle.hm_core.specs.declared.part.View.{View}
-use Rattle.hm_core.specs.Chain.{IsPublished, AreTrue, link_of}
-use Rattle.hm_core.specs.Moving.{view}
-use Rattle.hm_core.specs.Fresh.{common_known, fresh_index, fresh_part}
+use Rattle.hm_moves.specs.declared.part.Site.{Site}
+use Rattle.hm_moves.specs.declared.part.Part.{Part}
+use Rattle.hm_moves.specs.declared.part.View.{View}
+use Rattle.hm_moves.specs.Chain.{IsPublished, AreTrue, link_of}
+use Rattle.hm_moves.specs.Moving.{view}
+use Rattle.hm_moves.specs.Fresh.{common_known, fresh_index, fresh_part}
 use Rattle.hm_cells.specs.Facts.{Facts}
 
 -- root place 0 names the common object's version, and no other place is set

@@ -11,15 +11,15 @@ use Rattle.hm_model.specs.declared.entry.Entry.{Entry}
 use Rattle.hm_model.specs.Store.{PlainStore}
 use Rattle.hm_model.specs.Effect.{caller_of}
 use Rattle.hm_model.specs.History.{AreOthers}
-use Rattle.hm_core.specs.declared.part.Known.{Known}
-use Rattle.hm_core.specs.declared.part.Site.{Site}
-use Rattle.hm_core.specs.declared.part.Part.{Part}
-use Rattle.hm_core.specs.declared.part.View.{View}
-use Rattle.hm_core.specs.declared.moving.Act.TheVariants.{StoreOwn}
-use Rattle.hm_core.specs.declared.moving.Move.{Move}
-use Rattle.hm_core.specs.Moving.{word_of, becomes, entry_of, publishes, next_version, part_after, view, view_after, Enabled}
-use Rattle.hm_core.specs.Good.{Begins, Core, Good, Found, joined_view, longer, spent_view}
-use Rattle.hm_core.specs.Fresh.{fresh_part}
+use Rattle.hm_moves.specs.declared.part.Known.{Known}
+use Rattle.hm_moves.specs.declared.part.Site.{Site}
+use Rattle.hm_moves.specs.declared.part.Part.{Part}
+use Rattle.hm_moves.specs.declared.part.View.{View}
+use Rattle.hm_moves.specs.declared.moving.Act.TheVariants.{StoreOwn}
+use Rattle.hm_moves.specs.declared.moving.Move.{Move}
+use Rattle.hm_moves.specs.Moving.{word_of, becomes, entry_of, publishes, next_version, part_after, view, view_after, Enabled}
+use Rattle.hm_moves.specs.Good.{Begins, Core, Good, Found, joined_view, longer, spent_view}
+use Rattle.hm_moves.specs.Fresh.{fresh_part}
 use Rattle.hm_cells.specs.declared.knowledge.Knowledge.{Knowledge}
 use Rattle.hm_cells.specs.Grips.{Gripped}
 use Rattle.hm_cells.specs.Facts.{Facts, IsSure, IsSound}

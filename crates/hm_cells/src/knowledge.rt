@@ -1,5 +1,5 @@
 //! What seats know. Contracts and proofs alone have values of these types, but for what a table is told.
-use hm_core::{Site, View};
+use hm_moves::{Site, View};
 use hm_model::{Entry, Start};
 use hm_shape::{Shape, Version};
 use std::collections::LinkedList;

@@ -11,7 +11,7 @@
 //! +-------+------------+-------------+-----------+-----------+-- -
 //! ```
 //!
-//! Each call on a *pass* is one step of the machine of `hm_core`, by one load, store or exchange of one word:
+//! Each call on a *pass* is one step of the machine of `hm_moves`, by one load, store or exchange of one word:
 //!
 //! | Call | Word moved | What it may make |
 //! |---|---|---|

@@ -88,7 +88,7 @@ impl<U: Usage> Cells<U> {
 }
 
 impl<U: Usage> Pass<U> {
-    ghost use Rattle.hm_core.specs.Moving.{view};
+    ghost use Rattle.hm_moves.specs.Moving.{view};
     ghost use Rattle.hm_cells.specs.Shows.{knowledge};
     ghost use Rattle.hm_cells.specs.Making.{first_used, fresh_pass, newcomer};
 

@@ -2,10 +2,10 @@
 ghost use Rattle.std.specs.Prelude.{◌≡◌, ◌<◌, ◌≤◌, ◌^◌, ◌⊎◌, true, None, IfOk};
 ghost use Rattle.hm_shape.specs.declared.version.TheConstants.{FIRST_NUMBER, FIRST_REFERENCE, VERSION_WORDS};
 ghost use Rattle.hm_shape.specs.Words.{naming_word};
-ghost use Rattle.hm_core.specs.declared.moving.Act.TheVariants as act;
-ghost use Rattle.hm_core.specs.Chain.{IsFit};
-ghost use Rattle.hm_core.specs.Moving.{is_naming, next_version, HasHand, HasRoom, Names};
-ghost use Rattle.hm_core.specs.Stepping.{field_act};
+ghost use Rattle.hm_moves.specs.declared.moving.Act.TheVariants as act;
+ghost use Rattle.hm_moves.specs.Chain.{IsFit};
+ghost use Rattle.hm_moves.specs.Moving.{is_naming, next_version, HasHand, HasRoom, Names};
+ghost use Rattle.hm_moves.specs.Moving.{field_act};
 ghost use Rattle.hm_model.specs.Sight.{MayEnter};
 ghost use Rattle.hm_cells.specs.Facts.{Fits, IsLookable, IsSound, known_at, sight_of};
 ghost use Rattle.hm_cells.specs.Calls.{IsWhole, IsWholeCopy, MayPublish, MayStore, MayWant, Takes, drafted, linked, link_found, stored, turned, version_in, wanted};

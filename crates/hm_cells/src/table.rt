@@ -6,7 +6,7 @@ use crate::grip::Grip;
 use crate::knowledge::{Knowledge, Opening};
 use crate::want::Want;
 use atomic_table::{Join, Play, Seat, Split, Table, TableRule};
-use hm_core::Move;
+use hm_moves::Move;
 use hm_model::Usage;
 use hm_shape::{LINK, Shape, Version};
 use std::alloc::{AllocError, Global};
@@ -27,7 +27,7 @@ impl<U: Usage> TableRule<(), Knowledge<U>, Opening<U>> for ByTheMachine {
 
 /// The move that a call makes. Each call picks it.
 pub(crate) trait Moving {
-    ghost use Rattle.hm_core.specs.declared.moving.Move.{Move};
+    ghost use Rattle.hm_moves.specs.declared.moving.Move.{Move};
 
     ghost picked: { Move };
 }
@@ -62,7 +62,7 @@ impl<J: Moving, U: Usage> Play<(), Knowledge<U>> for Looking<J> {
 pub(crate) struct LastOut;
 
 impl<U> Split<Knowledge<U>> for LastOut {
-    ghost use Rattle.hm_core.specs.Moving.{view};
+    ghost use Rattle.hm_moves.specs.Moving.{view};
     ghost use Rattle.hm_cells.specs.Shows.{knowledge};
     ghost use Rattle.hm_cells.specs.Making.{front, back};
 
@@ -124,8 +124,8 @@ impl<U: Usage> Cells<U> {
     ghost use Rattle.hm_shape.specs.Versions.{IsVersionOf};
     ghost use Rattle.hm_shape.specs.Words.{word_at, naming_word};
     ghost use Rattle.hm_model.specs.History.{store_of, opening_of, starting_count};
-    ghost use Rattle.hm_core.specs.declared.part.Part.{Part};
-    ghost use Rattle.hm_core.specs.Moving.{view};
+    ghost use Rattle.hm_moves.specs.declared.part.Part.{Part};
+    ghost use Rattle.hm_moves.specs.Moving.{view};
     ghost use Rattle.hm_cells.specs.Grips.{site_of};
     ghost use Rattle.hm_cells.specs.Shows.{IsReady, Loads, Stores, Exchanges, Learns, Looks, knowledge, noted, met};
     ghost use Rattle.hm_cells.specs.Making.{AreFirst, first_view, front, back};

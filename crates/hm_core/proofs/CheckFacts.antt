@@ -15,13 +15,14 @@ use Rattle.hm_model.specs.Store.{Refs, IsThere, is_same}
 use Rattle.hm_model.specs.Effect.{new_contents}
 use Rattle.hm_model.specs.History.{store_of}
 use Rattle.hm_model.proofs.StoreFacts.{same_names, is_same-self}
-use Rattle.hm_core.specs.declared.part.Known.{Known}
-use Rattle.hm_core.specs.declared.part.Part.{Part}
-use Rattle.hm_core.specs.declared.moving.Act.TheVariants as act
+use Rattle.hm_moves.specs.declared.part.Known.{Known}
+use Rattle.hm_moves.specs.declared.part.Part.{Part}
+use Rattle.hm_moves.specs.declared.moving.Act.TheVariants as act
 use Rattle.hm_core.specs.declared.step.StepKind.{StepKind}
 use Rattle.hm_core.specs.declared.step.StepKind.TheVariants.{LoadField, LoadLink, StoreOwn, Publish, LinkStore, Split, Meet}
-use Rattle.hm_core.specs.Moving.{next_version, next_name, MayLookInto, HasRoom, Reads, Turns, MayTake, IsBuilt, IsWritten, AreKnown}
-use Rattle.hm_core.specs.Stepping.{act_of, field_act, later_known, IsLookable, HoldsWhatItNeeds, HasPlace, IsPlain, Fits}
+use Rattle.hm_moves.specs.Moving.{next_version, next_name, MayLookInto, HasRoom, Reads, Turns, MayTake, IsBuilt, IsWritten, AreKnown}
+use Rattle.hm_moves.specs.Moving.{field_act}
+use Rattle.hm_core.specs.Stepping.{act_of, later_known, IsLookable, HoldsWhatItNeeds, HasPlace, IsPlain, Fits}
 use Rattle.hm_core.specs.Running.{Moment, core_of, index_of, own_part, IsSound}
 use Rattle.hm_core.proofs.Moments.{only_one}
 use Rattle.hm_core.proofs.Looking.{look_index}

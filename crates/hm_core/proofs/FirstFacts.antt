@@ -8,12 +8,12 @@ use Rattle.hm_model.specs.Store.{Refs, Numbers, IsSized, PlainStore}
 use Rattle.hm_model.specs.Effect.{Stands, new_contents}
 use Rattle.hm_model.specs.History.{store_of, AllStand, side_names, starting_name}
 use Rattle.hm_model.proofs.HistoryFacts.{all_stand_parts}
-use Rattle.hm_core.specs.declared.part.Known.{Known}
-use Rattle.hm_core.specs.Moving.{listed}
-use Rattle.hm_core.specs.Fresh.{starting_known, side_known}
+use Rattle.hm_moves.specs.declared.part.Known.{Known}
+use Rattle.hm_moves.specs.Moving.{listed}
+use Rattle.hm_moves.specs.Fresh.{starting_known, side_known}
 use Rattle.hm_core.specs.Chronicles.{HasNextStamp}
 use Rattle.hm_core.specs.Firsts.{name_of_side, version_of_side, creates_of, word_of_first, words_of_first}
-use Rattle.hm_core.proofs.Fresh.{names_length}
+use Rattle.hm_moves.proofs.Fresh.{names_length}
 
 -- a list of four, or of ten, has its elements
 four_of : {A : Type 0} (l : List A) (x : A) → length l ≡ 4

@@ -15,20 +15,20 @@ use Rattle.hm_model.specs.declared.object.Start.{Start}
 use Rattle.hm_model.specs.declared.entry.Entry.{Entry}
 use Rattle.hm_model.specs.declared.usage.AnyUsage.{AnyUsage}
 use Rattle.hm_model.specs.History.{opening_of, starting_count, IsSizedStart}
-use Rattle.hm_core.specs.declared.part.Known.{Known}
-use Rattle.hm_core.specs.declared.part.Part.{Part}
-use Rattle.hm_core.specs.declared.part.View.{View}
-use Rattle.hm_core.specs.Chain.{Index, IsPublished, AreTrue, link_of, row_count, row_of}
-use Rattle.hm_core.specs.Moving.{listed, nothing_written}
-use Rattle.hm_core.specs.Good.{Carries}
+use Rattle.hm_moves.specs.declared.part.Known.{Known}
+use Rattle.hm_moves.specs.declared.part.Part.{Part}
+use Rattle.hm_moves.specs.declared.part.View.{View}
+use Rattle.hm_moves.specs.Chain.{Index, IsPublished, AreTrue, link_of, row_count, row_of}
+use Rattle.hm_moves.specs.Moving.{listed, nothing_written}
+use Rattle.hm_moves.specs.Good.{Carries}
 use Rattle.hm_core.specs.Hands.{HandState}
 use Rattle.hm_core.specs.SeatStates.{SeatState}
 use Rattle.hm_core.specs.Running.{Moment, any_store, any_entry, site_of, index_of, known_all, known_from, hand_at, used_at, own_part, seat_view, core_of, IsSoundHand, IsSound}
-use Rattle.hm_core.specs.Fresh.{common_known, all_known, fresh_index, fresh_part, IsFreshHeap, IsFreshCore}
+use Rattle.hm_moves.specs.Fresh.{common_known, all_known, fresh_index, fresh_part, IsFreshHeap, IsFreshCore}
 use Rattle.hm_core.specs.Firsts.{creates_of, first_words, first_seats}
-use Rattle.hm_core.proofs.Fresh.{numbered, numbered_at, many, common_published, used_first, used_other, good_fresh}
-use Rattle.hm_core.proofs.Held.{contains_first}
-use Rattle.hm_core.proofs.Places.{at_end, at_below}
+use Rattle.hm_moves.proofs.Fresh.{numbered, numbered_at, many, common_published, used_first, used_other, good_fresh}
+use Rattle.hm_moves.proofs.Held.{contains_first}
+use Rattle.hm_moves.proofs.Places.{at_end, at_below}
 use Rattle.hm_core.proofs.FirstWords.{opening_created, index_get, few, first_wide, first_true, first_links, used_get}
 
 abbrev pub first_hand : Shape → Start → HandState

@@ -17,11 +17,11 @@ use Rattle.hm_model.specs.declared.entry.Entry.TheVariants.{Create}
 use Rattle.hm_model.specs.Store.{Refs, Numbers, IsSized}
 use Rattle.hm_model.specs.Effect.{new_contents}
 use Rattle.hm_model.specs.History.{starting_name, side_names, side_entries, starting_count, common_name, opening_of, IsSizedStart}
-use Rattle.hm_core.specs.declared.part.Known.{Known}
-use Rattle.hm_core.specs.Chain.{IsPublished, Refers, AreTrue, words_at, link_of, reference_at, row_count}
-use Rattle.hm_core.specs.Fresh.{starting_known, side_known, common_known, all_known, fresh_index, fresh_used}
+use Rattle.hm_moves.specs.declared.part.Known.{Known}
+use Rattle.hm_moves.specs.Chain.{IsPublished, Refers, AreTrue, words_at, link_of, reference_at, row_count}
+use Rattle.hm_moves.specs.Fresh.{starting_known, side_known, common_known, all_known, fresh_index, fresh_used}
 use Rattle.hm_core.specs.Firsts.{FewFirsts, IsWritable, creates_of, word_of_first, words_of_first, head_words, first_words}
-use Rattle.hm_core.proofs.Fresh.{AreNumbered, numbered_at, numbered, many, known_at, used_first, used_other}
+use Rattle.hm_moves.proofs.Fresh.{AreNumbered, numbered_at, numbered, many, known_at, used_first, used_other}
 use Rattle.hm_core.proofs.ChronicleFacts.{get_split}
 
 words_wide : (k : Known) → IsSized k.contents.refs k.contents.numbers → length (words_of_first k) ≡ 16

@@ -9,8 +9,8 @@ use Rattle.std.proofs.Math.Bool.{not-not}
 use native.Mathlib.Decide.{ℕ_discrete}
 use mathlib.Core.Logic.{dite}
 use Rattle.hm_shape.specs.declared.version.Version.{Version}
-use Rattle.hm_core.specs.declared.part.Known.{Known}
-use Rattle.hm_core.specs.Moving.{unless_named, unnamed_from, unnamed}
+use Rattle.hm_moves.specs.declared.part.Known.{Known}
+use Rattle.hm_moves.specs.Moving.{unless_named, unnamed_from, unnamed}
 use Rattle.hm_core.specs.Hands.{HandState, is_number, held_with, held_without, number_of, CanHold, IsListed}
 
 -- a table of truth values says false where false is written, and past its end

@@ -3,12 +3,12 @@ use Rattle.std.proofs.Common.{◌≡◌, ◌⊎◌, ◌<◌, ◌≤◌, ◌+◌,
 use Rattle.std.specs.List.{list_any}
 use Rattle.std.proofs.lemmas.List.Elements.{Contains-push_cases}
 use Rattle.hm_shape.specs.declared.version.Version.{Version}
-use Rattle.hm_core.specs.declared.part.Known.{Known}
-use Rattle.hm_core.specs.Chain.{Index}
-use Rattle.hm_core.specs.Moving.{listed, is_version, with_held, without}
+use Rattle.hm_moves.specs.declared.part.Known.{Known}
+use Rattle.hm_moves.specs.Chain.{Index}
+use Rattle.hm_moves.specs.Moving.{listed, is_version, with_held, without}
 use Rattle.hm_core.specs.Hands.{is_number, held_with, held_without, number_of}
 use Rattle.hm_core.specs.Running.{known_all, known_from}
-use Rattle.hm_core.proofs.Held.{contains_first}
+use Rattle.hm_moves.proofs.Held.{contains_first}
 use Rattle.hm_core.proofs.HeldFacts.{contains_here, contains_behind}
 
 -- all of these are known

@@ -2,12 +2,12 @@
 use Rattle.std.proofs.Common.{◌≡◌, ◌<◌, ◌+◌, ◌==◌, ◌||◌, ℕ, zero, suc, Bool, true, false, eq-eqb, eqb-true, List, [], ◌∷◌, ◌++◌, length, Option, Some, None, IsSome, Contains, refl, ap, ◌∙◌, arith, ⊎_elim}
 use Rattle.std.specs.List.{list_any}
 use Rattle.hm_shape.specs.declared.version.Version.{Version}
-use Rattle.hm_core.specs.declared.part.Known.{Known}
-use Rattle.hm_core.specs.Chain.{Index}
-use Rattle.hm_core.specs.Moving.{listed}
+use Rattle.hm_moves.specs.declared.part.Known.{Known}
+use Rattle.hm_moves.specs.Chain.{Index}
+use Rattle.hm_moves.specs.Moving.{listed}
 use Rattle.hm_core.specs.Hands.{is_number}
 use Rattle.hm_core.specs.Running.{known_all, known_from}
-use Rattle.hm_core.proofs.Held.{contains_first, listed_cases}
+use Rattle.hm_moves.proofs.Held.{contains_first, listed_cases}
 
 pub contains_here : {A : Type 0} (x y : A) (xs : List A) → y ≡ x → Contains (y ∷ xs) x
 contains_here x y xs is = (zero, (omega arith), is)

@@ -7,26 +7,26 @@ use Rattle.hm_model.specs.declared.usage.AnyUsage.{AnyUsage}
 use Rattle.hm_model.specs.Store.{IsThere}
 use Rattle.hm_model.specs.Effect.{Stands}
 use Rattle.hm_model.specs.History.{store_of}
-use Rattle.hm_core.specs.declared.part.Known.{Known}
-use Rattle.hm_core.specs.declared.part.Part.{Part}
-use Rattle.hm_core.specs.declared.part.View.{View}
-use Rattle.hm_core.specs.declared.moving.Act.{Act}
-use Rattle.hm_core.specs.declared.moving.Act.TheVariants.{LoadStamp}
-use Rattle.hm_core.specs.declared.moving.Move.{Move}
+use Rattle.hm_moves.specs.declared.part.Known.{Known}
+use Rattle.hm_moves.specs.declared.part.Part.{Part}
+use Rattle.hm_moves.specs.declared.part.View.{View}
+use Rattle.hm_moves.specs.declared.moving.Act.{Act}
+use Rattle.hm_moves.specs.declared.moving.Act.TheVariants.{LoadStamp}
+use Rattle.hm_moves.specs.declared.moving.Move.{Move}
 use Rattle.hm_core.specs.declared.step.Step.{Step}
 use Rattle.hm_core.specs.declared.step.StepKind.{StepKind}
 use Rattle.hm_core.specs.declared.step.StepKind.TheVariants as kind
 use Rattle.hm_core.specs.declared.step.Other.{Other}
 use Rattle.hm_core.specs.declared.step.Other.TheVariants.{Note, Caller}
-use Rattle.hm_core.specs.Chain.{Index}
-use Rattle.hm_core.specs.Moving.{IsLawfulMove}
-use Rattle.hm_core.specs.Good.{Core, applied, split, joined}
-use Rattle.hm_core.specs.Safe.{Leads, here, moved, cut, met}
+use Rattle.hm_moves.specs.Chain.{Index}
+use Rattle.hm_moves.specs.Moving.{IsLawfulMove}
+use Rattle.hm_moves.specs.Good.{Core, applied, split, joined}
+use Rattle.hm_moves.specs.Safe.{Leads, here, moved, cut, met}
 use Rattle.hm_core.specs.Stepping.{seat_of, act_of, IsAwake, IsHeld, MayMeet, HasSeat, Fits, IsAccepted}
 use Rattle.hm_core.specs.SeatStates.{SeatState}
 use Rattle.hm_core.specs.Running.{Moment, any_store, any_entry, core_of, index_of, own_part, own_view, IsSound}
 use Rattle.hm_core.specs.Taking.{let_go_of, seat_after, IsAct, Moves, Becomes, Takes}
-use Rattle.hm_core.proofs.Enabling.{take_wider}
+use Rattle.hm_moves.proofs.Enabling.{take_wider}
 use Rattle.hm_core.proofs.Stepping.{let_known, accepted_lawful}
 use Rattle.hm_core.proofs.Moments.{awake_below, view_from, view_at}
 use Rattle.hm_core.proofs.Looking.{held_index}

@@ -4,9 +4,9 @@ use Rattle.std.specs.List.{list_any}
 use Rattle.hm_shape.specs.declared.version.Version.{Version}
 use Rattle.hm_shape.specs.Versions.{IsAt, version_at}
 use Rattle.hm_shape.specs.Words.{naming_word}
-use Rattle.hm_core.specs.declared.part.Known.{Known}
-use Rattle.hm_core.specs.Chain.{Index, lookup, row_of}
-use Rattle.hm_core.specs.Moving.{MayLookInto, Names, Spells, next_name}
+use Rattle.hm_moves.specs.declared.part.Known.{Known}
+use Rattle.hm_moves.specs.Chain.{Index, lookup, row_of}
+use Rattle.hm_moves.specs.Moving.{MayLookInto, Names, Spells, next_name}
 use Rattle.hm_core.specs.Stepping.{IsAwake, IsLookable, IsHeld}
 use Rattle.hm_core.specs.Hands.{is_number}
 use Rattle.hm_core.specs.Running.{Moment, core_of, hand_at, index_of, own_part, own_view, used_at, IsSound}

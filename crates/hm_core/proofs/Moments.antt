@@ -7,15 +7,15 @@ use mathlib.Core.Option.{some, some-injective, some-ne-none}
 use lib.ListN.{get_elem?}
 use Rattle.hm_shape.specs.Words.{word_count}
 use Rattle.hm_model.specs.declared.usage.AnyUsage.{AnyUsage}
-use Rattle.hm_core.specs.declared.part.Known.{Known}
-use Rattle.hm_core.specs.declared.part.Part.{Part}
-use Rattle.hm_core.specs.declared.part.View.{View}
-use Rattle.hm_core.specs.Chain.{IsPublished, IsFit, row_count}
-use Rattle.hm_core.specs.Good.{PartIsGood}
+use Rattle.hm_moves.specs.declared.part.Known.{Known}
+use Rattle.hm_moves.specs.declared.part.Part.{Part}
+use Rattle.hm_moves.specs.declared.part.View.{View}
+use Rattle.hm_moves.specs.Chain.{IsPublished, IsFit, row_count}
+use Rattle.hm_moves.specs.Good.{PartIsGood}
 use Rattle.hm_core.specs.Stepping.{IsAwake}
 use Rattle.hm_core.specs.SeatStates.{SeatState}
 use Rattle.hm_core.specs.Running.{Moment, core_of, index_of, own_part, own_view, seat_view, site_of, IsSound}
-use Rattle.hm_core.proofs.Placed.{total_small}
+use Rattle.hm_moves.proofs.Placed.{total_small}
 
 module _ {A B : Type 0} (f : A → B) where
   -- what a list has at a place, its image has there

@@ -10,21 +10,21 @@ use Rattle.hm_shape.specs.declared.shape.Shape.{Shape}
 use Rattle.hm_model.specs.declared.object.Start.{Start}
 use Rattle.hm_model.specs.declared.entry.Entry.{Entry}
 use Rattle.hm_model.specs.declared.usage.AnyUsage.{AnyUsage}
-use Rattle.hm_core.specs.declared.part.Known.{Known}
-use Rattle.hm_core.specs.declared.part.Part.{Part}
-use Rattle.hm_core.specs.declared.part.View.{View}
-use Rattle.hm_core.specs.declared.moving.Act.TheVariants.{LoadStamp}
-use Rattle.hm_core.specs.declared.moving.Move.{Move}
-use Rattle.hm_core.specs.Chain.{row_of}
-use Rattle.hm_core.specs.Moving.{nothing_written, unnamed, without, part_after, view, word_of, IsLawfulMove}
-use Rattle.hm_core.specs.Good.{Core, Good, joined, joined_view, longer, spent_view, split}
+use Rattle.hm_moves.specs.declared.part.Known.{Known}
+use Rattle.hm_moves.specs.declared.part.Part.{Part}
+use Rattle.hm_moves.specs.declared.part.View.{View}
+use Rattle.hm_moves.specs.declared.moving.Act.TheVariants.{LoadStamp}
+use Rattle.hm_moves.specs.declared.moving.Move.{Move}
+use Rattle.hm_moves.specs.Chain.{row_of}
+use Rattle.hm_moves.specs.Moving.{nothing_written, unnamed, without, part_after, view, word_of, IsLawfulMove}
+use Rattle.hm_moves.specs.Good.{Core, Good, joined, joined_view, longer, spent_view, split}
 use Rattle.hm_core.specs.Stepping.{IsAwake}
 use Rattle.hm_core.specs.Hands.{HandState, hand_without}
 use Rattle.hm_core.specs.SeatStates.{SeatState}
 use Rattle.hm_core.specs.Running.{Moment, any_store, any_entry, core_of, hand_at, own_part, own_view, seat_view, site_of, used_at, IsSound}
 use Rattle.hm_core.specs.Taking.{part_without, seat_after}
-use Rattle.hm_core.proofs.Places.{set_here, set_else}
-use Rattle.hm_core.proofs.Seats.{good_split, good_join}
+use Rattle.hm_moves.proofs.Places.{set_here, set_else}
+use Rattle.hm_moves.proofs.Seats.{good_split, good_join}
 use Rattle.hm_core.proofs.Moments.{view_at, seated_awake, awake_seated}
 use Rattle.hm_core.proofs.Taken.{after, core_after, sound_after}
 use Rattle.hm_core.proofs.TakingFacts.{moment_same}

@@ -6,8 +6,8 @@ use Rattle.hm_model.specs.declared.usage.AnyUsage.{AnyUsage}
 use Rattle.hm_model.specs.declared.object.Start.{Start}
 use Rattle.hm_model.specs.declared.entry.Entry.TheVariants.{Create}
 use Rattle.hm_model.specs.History.{common_name, opening_of, side_entries, side_names}
-use Rattle.hm_core.specs.declared.part.Part.{Part}
-use Rattle.hm_core.specs.declared.part.View.{View}
+use Rattle.hm_moves.specs.declared.part.Part.{Part}
+use Rattle.hm_moves.specs.declared.part.View.{View}
 use Rattle.hm_core.specs.declared.step.Other.TheVariants.{Note}
 use Rattle.hm_core.specs.Stepping.{IsAwake, IsAlone, MayMeet}
 use Rattle.hm_core.specs.SeatStates.{SeatState}

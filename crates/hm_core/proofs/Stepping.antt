@@ -3,16 +3,16 @@ use Rattle.std.proofs.Common.{◌≡◌, ℕ, Option, Some, None, IfSome, Contai
 use Rattle.hm_shape.specs.declared.version.Version.{Version}
 use Rattle.hm_model.specs.Store.{IsThere}
 use Rattle.hm_model.specs.History.{store_of}
-use Rattle.hm_core.specs.declared.part.Known.{Known}
-use Rattle.hm_core.specs.declared.part.Part.{Part}
-use Rattle.hm_core.specs.declared.part.View.{View}
-use Rattle.hm_core.specs.declared.moving.Act.{Act}
-use Rattle.hm_core.specs.declared.moving.Act.TheVariants as act
+use Rattle.hm_moves.specs.declared.part.Known.{Known}
+use Rattle.hm_moves.specs.declared.part.Part.{Part}
+use Rattle.hm_moves.specs.declared.part.View.{View}
+use Rattle.hm_moves.specs.declared.moving.Act.{Act}
+use Rattle.hm_moves.specs.declared.moving.Act.TheVariants as act
 use Rattle.hm_core.specs.declared.step.Step.{Step}
 use Rattle.hm_core.specs.declared.step.StepKind.{StepKind}
 use Rattle.hm_core.specs.declared.step.StepKind.TheVariants.{LoadField, LoadLink, StoreOwn, Publish, LinkStore, Split, Meet}
-use Rattle.hm_core.specs.Moving.{HasHand, MayHold, MayTake, MayMove}
-use Rattle.hm_core.specs.Good.{Core}
+use Rattle.hm_moves.specs.Moving.{HasHand, MayHold, MayTake, MayMove}
+use Rattle.hm_moves.specs.Good.{Core}
 use Rattle.hm_core.specs.Stepping.{act_of, IsHeld, MayHoldMore, IsTaken, Fits, IsAccepted}
 
 module _ {U : Type 0} (p : Part U) where

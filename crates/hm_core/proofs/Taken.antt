@@ -12,25 +12,25 @@ use Rattle.hm_model.specs.declared.entry.Entry.{Entry}
 use Rattle.hm_model.specs.declared.usage.AnyUsage.{AnyUsage}
 use Rattle.hm_model.specs.Lawful.{UsageLaws}
 use Rattle.hm_model.specs.History.{calls_of}
-use Rattle.hm_core.specs.declared.part.Known.{Known}
-use Rattle.hm_core.specs.declared.part.Part.{Part}
-use Rattle.hm_core.specs.declared.part.View.{View}
-use Rattle.hm_core.specs.declared.part.TheConstants.{MOST_HELD}
-use Rattle.hm_core.specs.declared.moving.Act.{Act}
-use Rattle.hm_core.specs.declared.moving.Act.TheVariants.{LoadStamp, LoadReference, LoadNumber, LoadLink, StoreOwn, Publish, LinkStore}
-use Rattle.hm_core.specs.declared.moving.Move.{Move}
-use Rattle.hm_core.specs.Chain.{Index, Heap, IsPublished, lookup, row_of}
-use Rattle.hm_core.specs.Moving.{listed, becomes, word_of, entry_of, publishes, finds, index_with, used_with, count_of, part_after, view, view_after, seen_after, next_version, where_zero, HasRoom, HasHand, MayHold, IsLawfulMove, with_held, without}
-use Rattle.hm_core.specs.Good.{Core, Good, PartIsGood, Carries, applied}
+use Rattle.hm_moves.specs.declared.part.Known.{Known}
+use Rattle.hm_moves.specs.declared.part.Part.{Part}
+use Rattle.hm_moves.specs.declared.part.View.{View}
+use Rattle.hm_moves.specs.declared.part.TheConstants.{MOST_HELD}
+use Rattle.hm_moves.specs.declared.moving.Act.{Act}
+use Rattle.hm_moves.specs.declared.moving.Act.TheVariants.{LoadStamp, LoadReference, LoadNumber, LoadLink, StoreOwn, Publish, LinkStore}
+use Rattle.hm_moves.specs.declared.moving.Move.{Move}
+use Rattle.hm_moves.specs.Chain.{Index, Heap, IsPublished, lookup, row_of}
+use Rattle.hm_moves.specs.Moving.{listed, becomes, word_of, entry_of, publishes, finds, index_with, used_with, count_of, part_after, view, view_after, seen_after, next_version, where_zero, HasRoom, HasHand, MayHold, IsLawfulMove, with_held, without}
+use Rattle.hm_moves.specs.Good.{Core, Good, PartIsGood, Carries, applied}
 use Rattle.hm_core.specs.Stepping.{IsAwake}
 use Rattle.hm_core.specs.Hands.{HandState, hand_moved, held_with, held_without, number_of}
 use Rattle.hm_core.specs.SeatStates.{SeatState}
 use Rattle.hm_core.specs.Running.{Moment, any_store, any_entry, core_of, hand_at, index_of, known_all, known_from, known_with, own_part, own_view, seat_view, seat_with, site_of, used_at, IsSound, IsSoundHand}
-use Rattle.hm_core.proofs.Histories.{IsBy, calls_after, calls_beside}
-use Rattle.hm_core.proofs.Finding.{entry_by, fresh_now, next_now, found_now}
-use Rattle.hm_core.proofs.Heaps.{next_small}
-use Rattle.hm_core.proofs.Placed.{place_small, same_row}
-use Rattle.hm_core.proofs.Steps.{good_step}
+use Rattle.hm_moves.proofs.Histories.{IsBy, calls_after, calls_beside}
+use Rattle.hm_moves.proofs.Finding.{entry_by, fresh_now, next_now, found_now}
+use Rattle.hm_moves.proofs.Heaps.{next_small}
+use Rattle.hm_moves.proofs.Placed.{place_small, same_row}
+use Rattle.hm_moves.proofs.Steps.{good_step}
 use Rattle.hm_core.proofs.HeldAfter.{AllKnown, IsNumbered, without_was, without_short, with_was, with_short, known_all-agree, known_from-agree, known_all-without, known_all-with}
 use Rattle.hm_core.proofs.Looking.{hand_count}
 use Rattle.hm_core.proofs.Moments.{Awakes, seated_awake, map_at, part_good, awake_below}

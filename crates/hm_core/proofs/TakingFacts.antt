@@ -15,20 +15,20 @@ use Rattle.hm_model.specs.Store.{contents_of, IsThere}
 use Rattle.hm_model.specs.Effect.{Stands, caller_of}
 use Rattle.hm_model.specs.History.{store_of, AllStand}
 use Rattle.hm_model.proofs.HistoryFacts.{all_stand_parts}
-use Rattle.hm_core.specs.declared.part.Known.{Known}
-use Rattle.hm_core.specs.declared.part.Part.{Part}
-use Rattle.hm_core.specs.declared.moving.Act.{Act}
-use Rattle.hm_core.specs.declared.moving.Act.TheVariants.{LoadStamp, LoadReference, LoadNumber, LoadLink, StoreOwn, Publish, LinkStore}
-use Rattle.hm_core.specs.declared.moving.Move.{Move}
-use Rattle.hm_core.specs.Chain.{IsPublished, row_of}
-use Rattle.hm_core.specs.Moving.{listed, becomes, count_of, entry_of, finds, nothing_written, publishes, word_of, MayLookInto, Reads, Turns, MayTake, IsLawfulMove}
+use Rattle.hm_moves.specs.declared.part.Known.{Known}
+use Rattle.hm_moves.specs.declared.part.Part.{Part}
+use Rattle.hm_moves.specs.declared.moving.Act.{Act}
+use Rattle.hm_moves.specs.declared.moving.Act.TheVariants.{LoadStamp, LoadReference, LoadNumber, LoadLink, StoreOwn, Publish, LinkStore}
+use Rattle.hm_moves.specs.declared.moving.Move.{Move}
+use Rattle.hm_moves.specs.Chain.{IsPublished, row_of}
+use Rattle.hm_moves.specs.Moving.{listed, becomes, count_of, entry_of, finds, nothing_written, publishes, word_of, MayLookInto, Reads, Turns, MayTake, IsLawfulMove}
 use Rattle.hm_core.specs.Stepping.{IsAwake}
 use Rattle.hm_core.specs.Hands.{HandState, CanHold, IsOwnWord, hand_moved}
 use Rattle.hm_core.specs.SeatStates.{SeatState}
 use Rattle.hm_core.specs.Chronicles.{name_of, HasNextStamp}
 use Rattle.hm_core.specs.Running.{Moment, any_store, any_entry, core_of, hand_at, index_of, known_with, own_part, own_view, seat_with, IsSound}
-use Rattle.hm_core.proofs.Heaps.{present_at, look_published}
-use Rattle.hm_core.proofs.Finding.{found_now}
+use Rattle.hm_moves.proofs.Heaps.{present_at, look_published}
+use Rattle.hm_moves.proofs.Finding.{found_now}
 use Rattle.hm_core.proofs.Moments.{part_good, awake_below, known_fit}
 use Rattle.hm_core.proofs.Taken.{after, sound_after, fresh_below, hand_room, entry_own, one_at_most, row_low}
 

@@ -9,8 +9,8 @@ use Rattle.hm_model.specs.Effect.{new_contents}
 use Rattle.hm_model.specs.History.{opening_of, starting_name}
 use Rattle.hm_model.specs.declared.entry.Entry.{Entry}
 use Rattle.hm_model.specs.declared.entry.Entry.TheVariants.{Create}
-use Rattle.hm_core.specs.declared.part.Known.{Known}
-use Rattle.hm_core.specs.Fresh.{starting_known, IsFreshCore}
+use Rattle.hm_moves.specs.declared.part.Known.{Known}
+use Rattle.hm_moves.specs.Fresh.{starting_known, IsFreshCore}
 use Rattle.hm_core.specs.SeatStates.{SeatState}
 use Rattle.hm_core.specs.Running.{Moment, core_of, site_of}
 

@@ -3,12 +3,12 @@ use Rattle.std.specs.Prelude.{◌≡◌, ◌≤◌, ◌<◌, ℕ, Bool, ◌==◌
 use Rattle.std.specs.List.{list_any}
 use Rattle.hm_shape.specs.declared.version.Version.{Version}
 use Rattle.hm_shape.specs.declared.version.TheConstants.{VERSION_WORDS}
-use Rattle.hm_core.specs.declared.part.Known.{Known}
-use Rattle.hm_core.specs.declared.part.TheConstants.{MOST_HELD}
-use Rattle.hm_core.specs.declared.moving.Act.{Act}
-use Rattle.hm_core.specs.declared.moving.Act.TheVariants.{LoadStamp, LoadReference, LoadNumber, LoadLink, StoreOwn, Publish, LinkStore}
-use Rattle.hm_core.specs.declared.moving.Move.{Move}
-use Rattle.hm_core.specs.Moving.{unnamed, written_with}
+use Rattle.hm_moves.specs.declared.part.Known.{Known}
+use Rattle.hm_moves.specs.declared.part.TheConstants.{MOST_HELD}
+use Rattle.hm_moves.specs.declared.moving.Act.{Act}
+use Rattle.hm_moves.specs.declared.moving.Act.TheVariants.{LoadStamp, LoadReference, LoadNumber, LoadLink, StoreOwn, Publish, LinkStore}
+use Rattle.hm_moves.specs.declared.moving.Move.{Move}
+use Rattle.hm_moves.specs.Moving.{unnamed, written_with}
 
 -- a hand, over so many versions
 pub record HandState : Type 0 where

@@ -1,9 +1,3 @@
-pub mod Chain
-pub mod Moving
-pub mod Good
-pub mod Fresh
-pub mod Safe
-pub mod Ends
 pub mod Stepping
 pub mod Hands
 pub mod SeatStates

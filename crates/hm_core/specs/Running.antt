@@ -8,14 +8,14 @@ use Rattle.hm_model.specs.declared.entry.Entry.{Entry}
 use Rattle.hm_model.specs.declared.usage.AnyUsage.{AnyUsage}
 use Rattle.hm_model.specs.Store.{PlainStore}
 use Rattle.hm_model.specs.History.{calls_of}
-use Rattle.hm_core.specs.declared.part.Known.{Known}
-use Rattle.hm_core.specs.declared.part.Site.{Site}
-use Rattle.hm_core.specs.declared.part.Part.{Part}
-use Rattle.hm_core.specs.declared.part.View.{View}
-use Rattle.hm_core.specs.declared.part.TheConstants.{MOST_HELD}
-use Rattle.hm_core.specs.Chain.{Index, row_count, row_of}
-use Rattle.hm_core.specs.Moving.{listed, nothing_written, view}
-use Rattle.hm_core.specs.Good.{Core, Good}
+use Rattle.hm_moves.specs.declared.part.Known.{Known}
+use Rattle.hm_moves.specs.declared.part.Site.{Site}
+use Rattle.hm_moves.specs.declared.part.Part.{Part}
+use Rattle.hm_moves.specs.declared.part.View.{View}
+use Rattle.hm_moves.specs.declared.part.TheConstants.{MOST_HELD}
+use Rattle.hm_moves.specs.Chain.{Index, row_count, row_of}
+use Rattle.hm_moves.specs.Moving.{listed, nothing_written, view}
+use Rattle.hm_moves.specs.Good.{Core, Good}
 use Rattle.hm_core.specs.Hands.{HandState}
 use Rattle.hm_core.specs.SeatStates.{SeatState}
 

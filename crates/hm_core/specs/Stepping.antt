@@ -10,31 +10,24 @@ use Rattle.hm_model.specs.declared.entry.Entry.TheVariants.{Create, Fetch, Store
 use Rattle.hm_model.specs.Store.{IsThere}
 use Rattle.hm_model.specs.Effect.{caller_of, new_contents, with_field, with_all}
 use Rattle.hm_model.specs.History.{store_of}
-use Rattle.hm_core.specs.declared.part.Known.{Known}
-use Rattle.hm_core.specs.declared.part.Part.{Part}
-use Rattle.hm_core.specs.declared.part.View.{View}
-use Rattle.hm_core.specs.declared.moving.Act.{Act}
-use Rattle.hm_core.specs.declared.moving.Act.TheVariants as act
+use Rattle.hm_moves.specs.declared.part.Known.{Known}
+use Rattle.hm_moves.specs.declared.part.Part.{Part}
+use Rattle.hm_moves.specs.declared.part.View.{View}
+use Rattle.hm_moves.specs.declared.moving.Act.{Act}
+use Rattle.hm_moves.specs.declared.moving.Act.TheVariants as act
 use Rattle.hm_core.specs.declared.step.Step.{Step}
 use Rattle.hm_core.specs.declared.step.StepKind.{StepKind}
 use Rattle.hm_core.specs.declared.step.StepKind.TheVariants.{LoadField, LoadLink, StoreOwn, Publish, LinkStore, Split, Meet}
 use Rattle.hm_core.specs.declared.step.Other.{Other}
 use Rattle.hm_core.specs.declared.step.Other.TheVariants.{Note, Caller}
-use Rattle.hm_core.specs.Chain.{Index}
-use Rattle.hm_core.specs.Moving.{next_version, is_naming, Names, MayLookInto, HasRoom, HasHand, MayTake}
-use Rattle.hm_core.specs.Good.{Core, Carries}
+use Rattle.hm_moves.specs.Chain.{Index}
+use Rattle.hm_moves.specs.Moving.{field_act, next_version, is_naming, AreWrittenFrom, Names, MayLookInto, HasRoom, HasHand, MayTake}
+use Rattle.hm_moves.specs.Good.{Core, Carries}
 
 -- the callers' seats come first, then the notes in the order in which they were split off
 abbrev pub seat_of : ℕ → Other → ℕ
 seat_of callers (Note i) = callers + i
 seat_of callers (Caller q) = q
-
--- a word of a version is loaded as its stamp, a reference or a number
-abbrev pub field_act : Known → ℕ → Act
-field_act at i =
-    if i == STAMP then act.LoadStamp at
-    else if nat_lt i FIRST_NUMBER then act.LoadReference at (i - FIRST_REFERENCE)
-    else act.LoadNumber at (i - FIRST_NUMBER)
 
 -- an entry that stores makes a later version, at this place, of the one that it stores into
 abbrev pub later_known : Version → Known → Entry → Option Known
@@ -149,11 +142,6 @@ module _ {U : Type 0} where
   HasPlace p (LinkStore v entry) = HasRoom p
   HasPlace p Split = Unit {0}
   HasPlace p (Meet other) = Unit {0}
-
-  -- words of the caller's next version are written, from one on
-  abbrev pub AreWrittenFrom : Part U → ℕ → Type 0
-  AreWrittenFrom p first = (j : ℕ) → first ≤ j → j < VERSION_WORDS
-      → IsSome (slice_index_or p.draft.written j None)
 
   -- a kind that publishes needs the words written
   abbrev pub HasWords : Part U → StepKind → Type 0

@@ -2,18 +2,18 @@
 use Rattle.std.specs.Prelude.{◌≡◌, ℕ, [], Option, Some, IfSome, option_and_then, slice_set, slice_index}
 use Rattle.hm_shape.specs.declared.version.Version.{Version}
 use Rattle.hm_model.specs.declared.usage.AnyUsage.{AnyUsage}
-use Rattle.hm_core.specs.declared.part.Known.{Known}
-use Rattle.hm_core.specs.declared.part.Part.{Part}
-use Rattle.hm_core.specs.declared.part.View.{View}
-use Rattle.hm_core.specs.declared.moving.Act.{Act}
+use Rattle.hm_moves.specs.declared.part.Known.{Known}
+use Rattle.hm_moves.specs.declared.part.Part.{Part}
+use Rattle.hm_moves.specs.declared.part.View.{View}
+use Rattle.hm_moves.specs.declared.moving.Act.{Act}
 use Rattle.hm_core.specs.declared.step.Step.{Step}
 use Rattle.hm_core.specs.declared.step.StepKind.{StepKind}
 use Rattle.hm_core.specs.declared.step.StepKind.TheVariants.{LoadField, LoadLink, StoreOwn, Publish, LinkStore, Split, Meet}
 use Rattle.hm_core.specs.declared.step.StepRefused.{StepRefused}
 use Rattle.hm_core.specs.declared.step.StepRefused.TheVariants as refused
-use Rattle.hm_core.specs.Chain.{Index}
-use Rattle.hm_core.specs.Moving.{word_of, unnamed, without, view}
-use Rattle.hm_core.specs.Good.{applied, split, joined}
+use Rattle.hm_moves.specs.Chain.{Index}
+use Rattle.hm_moves.specs.Moving.{word_of, unnamed, without, view}
+use Rattle.hm_moves.specs.Good.{applied, split, joined}
 use Rattle.hm_core.specs.Stepping.{seat_of, act_of, IsAwake, HasSeat, HoldsWhatItNeeds, IsHeld, MayHoldMore, HasPlace, HasWords, Fits, IsAccepted}
 use Rattle.hm_core.specs.Running.{Moment, core_of, own_part, own_view, index_of}
 

@@ -2,8 +2,7 @@
 ghost use Rattle.std.specs.Prelude.{◌≡◌, IfOk, IfErr, OnOk, OnErr};
 
 use crate::machine::Machine;
-use crate::moving::Move;
-use crate::part::Known;
+use hm_moves::{Known, Move};
 use crate::step::{Other, Step, StepKind, StepRefused};
 use hm_shape::Version;
 use std::alloc::AllocError;
@@ -24,7 +23,7 @@ impl Machine {
     ghost use Rattle.hm_core.specs.declared.step.StepRefused.TheVariants.{Memory};
     ghost use Rattle.hm_core.specs.Stepping.{seat_of as place_of};
     ghost use Rattle.hm_core.specs.Running.{any_store, any_entry, core_of, index_of, site_of, IsSound};
-    ghost use Rattle.hm_core.specs.Safe.{Leads};
+    ghost use Rattle.hm_moves.specs.Safe.{Leads};
     ghost use Rattle.hm_core.specs.Taking.{let_go_of as known_to_go, IsAct, IsAdmitted, IsRefusedFor, Moves, Takes};
 
     /// Takes one step, and answers the word that was found: 0 for a StoreOwn, a Publish, a Split and a Meet.

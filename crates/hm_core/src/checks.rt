@@ -8,8 +8,9 @@ use crate::step::{Other, StepKind};
 use hm_shape::{VERSION_WORDS, Version};
 
 impl Machine {
-    ghost use Rattle.hm_core.specs.Moving.{is_naming, Names};
-    ghost use Rattle.hm_core.specs.Stepping.{IsAwake, IsAlone, MayMeet, HasSeat, IsHeld, HoldsWhatItNeeds, MayHoldMore, HasPlace, AreWrittenFrom, HasWords};
+    ghost use Rattle.hm_moves.specs.Moving.{is_naming, Names};
+    ghost use Rattle.hm_moves.specs.Moving.{AreWrittenFrom};
+    ghost use Rattle.hm_core.specs.Stepping.{IsAwake, IsAlone, MayMeet, HasSeat, IsHeld, HoldsWhatItNeeds, MayHoldMore, HasPlace, HasWords};
     ghost use Rattle.hm_core.specs.Running.{core_of, own_part, own_view};
 
     // Whether a caller takes steps: it is there, and its seat was not joined with another.

@@ -1,57 +1,55 @@
 //! A move cut into the word that it moves, what that becomes, and what it makes and finds.
 ghost use Rattle.std.specs.Prelude.{◌≡◌, ◌+◌, ◌<◌, ◌^◌, length};
 ghost use Rattle.hm_model.specs.declared.entry.Entry.TheVariants.{Create};
-ghost use Rattle.hm_core.specs.Moving.{word_of as moved_word, becomes as word_after, entry_of, publishes as published_by, finds as found_by, MayTake};
-ghost use Rattle.hm_core.specs.Stepping.{act_of as act_by, field_act as field_load, first_known as first_of, later_known as later_of, HasPlace};
+ghost use Rattle.hm_moves.specs.Moving.{word_of as moved_word, becomes as word_after, entry_of, publishes as published_by, finds as found_by, MayTake};
+ghost use Rattle.hm_moves.specs.Moving.{field_act as field_load};
+ghost use Rattle.hm_core.specs.Stepping.{act_of as act_by, first_known as first_of, later_known as later_of, HasPlace};
 
 use crate::contents::{new_contents, with_all, with_field};
 use crate::machine::Machine;
-use crate::moving::Act;
-use crate::part::Known;
 use crate::step::StepKind;
 use hm_model::{Entry, Tried};
+use hm_moves::{Act, Known};
 use hm_shape::{FIRST_NUMBER, FIRST_REFERENCE, LINK, STAMP, Version};
 
-impl Act {
-    // What the word becomes, where this was found.
-    pub(crate) fn becomes(&self, found: u64) -> u64
-        ensures { result ≡ word_after self.now found }
-    {
-        match *self {
-            Act::StoreOwn { word, .. } => word,
-            Act::Publish { .. } => 0,
-            Act::LinkStore { fresh, .. } => {
-                if found == 0 {
-                    fresh.version.name()
-                } else {
-                    found
-                }
+// What the word that an act moves becomes, where this was found.
+pub(crate) fn becomes(act: &Act, found: u64) -> u64
+    ensures { result ≡ word_after act.now found }
+{
+    match *act {
+        Act::StoreOwn { word, .. } => word,
+        Act::Publish { .. } => 0,
+        Act::LinkStore { fresh, .. } => {
+            if found == 0 {
+                fresh.version.name()
+            } else {
+                found
             }
-            _ => found,
         }
+        _ => found,
     }
+}
 
-    // The entry that a caller makes by it, where this was found.
-    pub(crate) fn entry(&self, caller: u32, found: u64) -> Option<Entry>
-        ensures { result ≡ entry_of caller self.now found }
-    {
-        match *self {
-            Act::LoadLink { want, .. } if found == 0 => want,
-            Act::Publish { fresh } => Some(create_of(caller, &fresh)),
-            Act::LinkStore { entry, .. } if found == 0 => Some(entry),
-            _ => None,
-        }
+// The entry that a caller makes by an act, where this was found.
+pub(crate) fn entry(act: &Act, caller: u32, found: u64) -> Option<Entry>
+    ensures { result ≡ entry_of caller act.now found }
+{
+    match *act {
+        Act::LoadLink { want, .. } if found == 0 => want,
+        Act::Publish { fresh } => Some(create_of(caller, &fresh)),
+        Act::LinkStore { entry, .. } if found == 0 => Some(entry),
+        _ => None,
     }
+}
 
-    // The version that it publishes, where this was found.
-    pub(crate) fn publishes(&self, found: u64) -> Option<Known>
-        ensures { result ≡ published_by self.now found }
-    {
-        match *self {
-            Act::Publish { fresh } => Some(fresh),
-            Act::LinkStore { fresh, .. } if found == 0 => Some(fresh),
-            _ => None,
-        }
+// The version that an act publishes, where this was found.
+pub(crate) fn publishes(act: &Act, found: u64) -> Option<Known>
+    ensures { result ≡ published_by act.now found }
+{
+    match *act {
+        Act::Publish { fresh } => Some(fresh),
+        Act::LinkStore { fresh, .. } if found == 0 => Some(fresh),
+        _ => None,
     }
 }
 

@@ -2,22 +2,22 @@
 ghost use Rattle.std.specs.Prelude.{◌≡◌, ◌≢◌, ◌+◌, ◌++◌, ◌^◌, ◌<◌, ◌⊎◌, None, [], length, IfSome, OnErr, IfOk, OnOk, Contains, slice_index};
 ghost use Rattle.hm_model.specs.Effect.{Stands, caller_of};
 ghost use Rattle.hm_model.specs.History.{store_of};
-ghost use Rattle.hm_core.specs.Moving.{listed, count_of};
+ghost use Rattle.hm_moves.specs.Moving.{listed, count_of};
 ghost use Rattle.hm_core.specs.Chronicles.{HasNextStamp};
 ghost use Rattle.hm_core.specs.Running.{known_with, seat_with};
 
 use crate::chronicle::Chronicle;
+use crate::cuts::{becomes, entry, publishes};
 use crate::hand::Hand;
 use crate::machine::Machine;
-use crate::moving::{Act, Move};
-use crate::part::Known;
 use crate::seat::Seat;
 use hm_model::Entry;
+use hm_moves::{Act, Known, Move};
 use std::alloc::AllocError;
 
 impl Hand {
     ghost use Rattle.hm_core.specs.Hands.{CanHold, IsOwnWord, held_with, held_without, number_of, hand_moved, hand_without};
-    ghost use Rattle.hm_core.specs.Moving.{unnamed, written_with};
+    ghost use Rattle.hm_moves.specs.Moving.{unnamed, written_with};
 
     // The hand after a move that found one version and published another.
     fn follow(&mut self, m: &Move, found: Option<Known>, fresh: Option<Known>)
@@ -100,8 +100,8 @@ impl Hand {
 }
 
 impl Machine {
-    ghost use Rattle.hm_core.specs.Good.{applied, split, joined};
-    ghost use Rattle.hm_core.specs.Moving.{IsLawfulMove, word_of};
+    ghost use Rattle.hm_moves.specs.Good.{applied, split, joined};
+    ghost use Rattle.hm_moves.specs.Moving.{IsLawfulMove, word_of};
     ghost use Rattle.hm_core.specs.Stepping.{IsAwake};
     ghost use Rattle.hm_core.specs.Running.{any_store, any_entry, core_of, own_part, own_view, site_of};
     ghost use Rattle.hm_core.specs.Taking.{seat_after};
@@ -122,10 +122,10 @@ impl Machine {
         let at = self.word_of(caller, &m.act) as usize;
         let x = self.words[at];
         let found = self.finds(&m.act, x);
-        let fresh = m.act.publishes(x);
+        let fresh = publishes(&m.act, x);
         let seat = &mut self.seats[caller as usize];
-        enter(&mut self.chronicle, seat, m.act.entry(caller, x))?;
-        self.words[at] = m.act.becomes(x);
+        enter(&mut self.chronicle, seat, entry(&m.act, caller, x))?;
+        self.words[at] = becomes(&m.act, x);
         self.hands[caller as usize].follow(m, found, fresh);
         let row = (caller * self.shape.regions) as usize;
         publish(&mut self.known, &mut self.used[row], fresh);

@@ -7,7 +7,7 @@ ghost use Rattle.hm_model.specs.declared.entry.Tried.TheVariants.{Changed};
 
 use crate::contents::{new_contents, with_all, with_field};
 use crate::machine::Machine;
-use crate::part::Known;
+use hm_moves::Known;
 use crate::step::StepKind;
 use hm_model::{Contents, Entry, Field, Name, Tried};
 use hm_shape::{FIRST_NUMBER, FIRST_REFERENCE, LINK, STAMP, Version};
@@ -15,8 +15,8 @@ use hm_shape::{FIRST_NUMBER, FIRST_REFERENCE, LINK, STAMP, Version};
 impl Machine {
     ghost use Rattle.hm_model.specs.History.{store_of};
     ghost use Rattle.hm_model.specs.Store.{IsSized, IsThere};
-    ghost use Rattle.hm_core.specs.Chain.{IsFit};
-    ghost use Rattle.hm_core.specs.Moving.{IsWritten, Spells, IsBuilt, AreKnown, IsKnownField, IsGiven, Reads, Turns, HasRoom};
+    ghost use Rattle.hm_moves.specs.Chain.{IsFit};
+    ghost use Rattle.hm_moves.specs.Moving.{IsWritten, Spells, IsBuilt, AreKnown, IsKnownField, IsGiven, Reads, Turns, HasRoom};
     ghost use Rattle.hm_core.specs.Stepping.{IsLookable, HoldsWhatItNeeds, HasPlace, IsPlain, Fits};
     ghost use Rattle.hm_core.specs.Running.{core_of, own_part, IsSound};
 

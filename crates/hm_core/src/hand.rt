@@ -3,12 +3,12 @@ ghost use Rattle.std.specs.Prelude.{◌≡◌, ◌<◌, [], ◌∷◌, length, S
 ghost use Rattle.std.specs.List.{list_any};
 ghost use Rattle.hm_shape.specs.declared.version.TheConstants.{VERSION_WORDS};
 ghost use Rattle.hm_shape.specs.Words.{naming_word};
-ghost use Rattle.hm_core.specs.declared.part.Known.{Known};
-ghost use Rattle.hm_core.specs.declared.part.TheConstants.{MOST_HELD};
-ghost use Rattle.hm_core.specs.Moving.{is_naming, unless_named, unnamed};
+ghost use Rattle.hm_moves.specs.declared.part.Known.{Known};
+ghost use Rattle.hm_moves.specs.declared.part.TheConstants.{MOST_HELD};
+ghost use Rattle.hm_moves.specs.Moving.{is_naming, unless_named, unnamed};
 
 use crate::contents::put;
-use crate::part::MOST_HELD;
+use hm_moves::MOST_HELD;
 use hm_shape::{FIRST_NUMBER, FIRST_REFERENCE, LINK, VERSION_WORDS, Version};
 use std::alloc::{AllocError, Global};
 use std::marker::Model;
@@ -40,7 +40,7 @@ impl Model for Hand {
 
 impl Hand {
     ghost use Rattle.hm_core.specs.Hands.{HandState, is_number, held_with, held_without};
-    ghost use Rattle.hm_core.specs.Moving.{unnamed, nothing_written};
+    ghost use Rattle.hm_moves.specs.Moving.{unnamed, nothing_written};
 
     /// A hand that holds one version of so many, with no word written.
     pub fn new(alloc: Global, size: u32, first: Version) -> Result<Hand, AllocError>

@@ -2,9 +2,9 @@
 ghost use Rattle.std.specs.Prelude.{◌≡◌, ◌<◌, ◌≤◌, ℕ, IfOk, OnErr, OnOk, length, take};
 ghost use Rattle.hm_model.specs.History.{starting_count};
 ghost use Rattle.hm_core.specs.Running.{any_store, any_entry, core_of, site_of};
-ghost use Rattle.hm_core.specs.Ends.{ChainsEnd};
+ghost use Rattle.hm_moves.specs.Ends.{ChainsEnd};
 ghost use Rattle.hm_core.specs.Playing.{Answers, Plays, PlaysFresh};
-ghost use Rattle.hm_core.specs.Safe.{ComesFromFresh, IsSafe, Leads};
+ghost use Rattle.hm_moves.specs.Safe.{ComesFromFresh, IsSafe, Leads};
 
 use crate::machine::{Machine, Memory};
 use crate::step::{Step, StepRefused};

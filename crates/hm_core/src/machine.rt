@@ -4,7 +4,7 @@ ghost use Rattle.hm_shape.specs.declared.version.TheConstants.{VERSION_WORDS};
 
 use crate::chronicle::Chronicle;
 use crate::hand::Hand;
-use crate::part::{Known, MOST_HELD};
+use hm_moves::{Known, MOST_HELD};
 use crate::seat::Seat;
 use hm_model::{Contents, Name, Start};
 use hm_shape::{Shape, VERSION_WORDS, Version};
@@ -57,11 +57,11 @@ impl Machine {
     ghost use Rattle.hm_shape.specs.Words.{word_count};
     ghost use Rattle.hm_model.specs.Store.{contents_of, IsThere};
     ghost use Rattle.hm_model.specs.History.{store_of};
-    ghost use Rattle.hm_core.specs.Chain.{lookup, IsFit};
-    ghost use Rattle.hm_core.specs.Moving.{next_version, next_name, HasRoom, HasHand};
+    ghost use Rattle.hm_moves.specs.Chain.{lookup, IsFit};
+    ghost use Rattle.hm_moves.specs.Moving.{next_version, next_name, HasRoom, HasHand};
     ghost use Rattle.hm_core.specs.Stepping.{IsAwake, IsLookable, IsHeld};
     ghost use Rattle.hm_core.specs.Running.{core_of, hand_at, index_of, own_part, own_view, site_of, used_at, IsSound};
-    ghost use Rattle.hm_core.specs.Safe.{IsSafe};
+    ghost use Rattle.hm_moves.specs.Safe.{IsSafe};
 
     /// The present plain store, in order of making.
     pub fn store(&self) -> &[(Name, Contents)]

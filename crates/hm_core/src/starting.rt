@@ -3,9 +3,9 @@ ghost use Rattle.std.specs.Prelude.{All, ◌≡◌, ◌+◌, ◌-◌, ◌^◌, �
 ghost use Rattle.hm_shape.specs.Versions.{version_count};
 ghost use Rattle.hm_model.specs.Effect.{new_contents as contents_of_new};
 ghost use Rattle.hm_model.specs.History.{AllStand, starting_count, starting_name as name_of_first};
-ghost use Rattle.hm_core.specs.Chain.{row_count};
-ghost use Rattle.hm_core.specs.Moving.{listed, nothing_written};
-ghost use Rattle.hm_core.specs.Fresh.{all_known, starting_known};
+ghost use Rattle.hm_moves.specs.Chain.{row_count};
+ghost use Rattle.hm_moves.specs.Moving.{listed, nothing_written};
+ghost use Rattle.hm_moves.specs.Fresh.{all_known, starting_known};
 ghost use Rattle.hm_core.specs.Firsts.{IsFreshMachine, IsWritable, creates_of, name_of_side, version_of_side, word_of_first, words_of_first, head_words, first_words, first_seats};
 
 use crate::chronicle::Chronicle;
@@ -13,7 +13,7 @@ use crate::contents::new_contents;
 use crate::cuts::create_of;
 use crate::hand::Hand;
 use crate::machine::{Machine, Memory};
-use crate::part::Known;
+use hm_moves::Known;
 use crate::seat::Seat;
 use hm_model::{Name, Start};
 use hm_shape::{Shape, Version};

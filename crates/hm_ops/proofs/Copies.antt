@@ -10,7 +10,7 @@ use Rattle.hm_model.specs.declared.entry.Entry.{Entry}
 use Rattle.hm_model.specs.Effect.{with_field}
 use Rattle.hm_model.specs.Store.{PlainStore}
 use Rattle.hm_model.specs.Sight.{Sight, name_of}
-use Rattle.hm_core.specs.declared.part.Known.{Known}
+use Rattle.hm_moves.specs.declared.part.Known.{Known}
 use Rattle.hm_cells.specs.declared.want.WantField.{WantField}
 use Rattle.hm_cells.specs.declared.want.WantField.TheVariants as want
 use Rattle.hm_cells.specs.Calls.{IsWholeCopy, field_of}

@@ -10,10 +10,10 @@ use Rattle.hm_model.specs.Sight.{Sight, Places, Rests, SetsRoot, Enters, MayEnte
 use Rattle.hm_model.specs.Calls.{Creates, MayCreate}
 use Rattle.hm_model.proofs.CallFacts.{creates_enters}
 use Rattle.hm_model.proofs.Entering.{enters_rests}
-use Rattle.hm_core.specs.declared.part.Known.{Known}
-use Rattle.hm_core.specs.declared.moving.Act.{Act}
-use Rattle.hm_core.specs.declared.moving.Act.TheVariants.{Publish}
-use Rattle.hm_core.specs.Moving.{HasRoom, next_name, next_version}
+use Rattle.hm_moves.specs.declared.part.Known.{Known}
+use Rattle.hm_moves.specs.declared.moving.Act.{Act}
+use Rattle.hm_moves.specs.declared.moving.Act.TheVariants.{Publish}
+use Rattle.hm_moves.specs.Moving.{HasRoom, next_name, next_version}
 use Rattle.hm_cells.specs.Facts.{Facts, Made, IsSound, IsHeldAt, known_at, names_at, place_name, room_of, sight_of, with_hand, with_root, without_first}
 use Rattle.hm_cells.specs.Calls.{MayPublish, Takes, drafted, drafted_numbers, drafted_refs}
 use Rattle.hm_cells.proofs.Stepped.{new_held}
@@ -108,7 +108,7 @@ module _ {U : Type 0} (lawful : U → PlainStore → Type 0) (allowed : U → Pl
               let used : u.part.draft.used ≡ t.part.draft.used + 1 = ap (λ (x : Facts U). x.part.draft.used)
               took.is in
               let size : u.part.site.shape.versions ≡ t.part.site.shape.versions =
-              ap (λ (x : Rattle.hm_core.specs.declared.part.Site.Site U). x.shape.versions)
+              ap (λ (x : Rattle.hm_moves.specs.declared.part.Site.Site U). x.shape.versions)
               (site_kept lawful allowed t u act 0 took) in
               let left : room_of t.part ≡ room_of s.part = ap (λ (c : Sight U). c.room) d.same in
               let last : room_of f.part ≡ room_of u.part = ap (λ (x : Facts U). room_of x.part) end in

@@ -8,7 +8,7 @@ use Rattle.hm_model.specs.Store.{Numbers, PlainStore}
 use Rattle.hm_model.specs.Sight.{Rests, SetsHand, Sight, name_at}
 use Rattle.hm_model.specs.Calls.{FetchesAll}
 use Rattle.hm_model.proofs.CallFacts.{fetches_rests}
-use Rattle.hm_core.specs.declared.part.Known.{Known}
+use Rattle.hm_moves.specs.declared.part.Known.{Known}
 use Rattle.hm_cells.specs.Facts.{Facts, Made, known_at, sight_of}
 use Rattle.hm_ops.specs.Walking.{Reads, Walks, contents_at}
 

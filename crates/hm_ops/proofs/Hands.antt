@@ -10,8 +10,8 @@ use Rattle.hm_model.specs.declared.root.Root.{Root}
 use Rattle.hm_model.specs.Store.{PlainStore}
 use Rattle.hm_model.specs.Sight.{name_at}
 use Rattle.hm_model.specs.Calls.{IsOutside}
-use Rattle.hm_core.specs.declared.part.Known.{Known}
-use Rattle.hm_core.specs.Chain.{reference_at}
+use Rattle.hm_moves.specs.declared.part.Known.{Known}
+use Rattle.hm_moves.specs.Chain.{reference_at}
 use Rattle.hm_cells.specs.Facts.{Facts, Made, known_at, names_at}
 use Rattle.hm_ops.specs.Resting.{IsRootedOutside}
 use Rattle.hm_ops.specs.Walking.{ReadsInto, contents_at}

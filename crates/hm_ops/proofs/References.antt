@@ -9,12 +9,12 @@ use Rattle.hm_shape.specs.Words.{naming_word}
 use Rattle.hm_model.specs.declared.object.Name.{Name}
 use Rattle.hm_model.specs.declared.entry.Entry.{Entry}
 use Rattle.hm_model.specs.Store.{PlainStore}
-use Rattle.hm_core.specs.declared.part.Known.{Known}
-use Rattle.hm_core.specs.declared.moving.Act.{Act}
-use Rattle.hm_core.specs.declared.moving.Act.TheVariants.{LoadReference}
-use Rattle.hm_core.specs.Chain.{IsFit, reference_at}
-use Rattle.hm_core.specs.Good.{IsReference}
-use Rattle.hm_core.specs.Stepping.{field_act}
+use Rattle.hm_moves.specs.declared.part.Known.{Known}
+use Rattle.hm_moves.specs.declared.moving.Act.{Act}
+use Rattle.hm_moves.specs.declared.moving.Act.TheVariants.{LoadReference}
+use Rattle.hm_moves.specs.Chain.{IsFit, reference_at}
+use Rattle.hm_moves.specs.Good.{IsReference}
+use Rattle.hm_moves.specs.Moving.{field_act}
 use Rattle.hm_cells.specs.Facts.{Facts, Made, IsSound, known_at, place_name}
 use Rattle.hm_cells.specs.Calls as call
 use Rattle.hm_cells.proofs.Fields.{hand_field, named_in, small_reference}

@@ -10,7 +10,7 @@ use Rattle.hm_model.specs.Sight.{Sight, Places, MayEnter, names_of, root_of}
 use Rattle.hm_model.specs.Effect.{with_all}
 use Rattle.hm_model.specs.Calls.{FindsChanged, MayStoreIf, StoresAll}
 use Rattle.hm_model.proofs.CallFacts.{finds_changed_enters, stores_all_enters}
-use Rattle.hm_core.specs.declared.part.Known.{Known}
+use Rattle.hm_moves.specs.declared.part.Known.{Known}
 use Rattle.hm_cells.specs.Facts.{Facts, Made, known_at, room_of, sight_of}
 use Rattle.hm_cells.specs.Calls.{IsWholeCopy}
 use Rattle.hm_ops.specs.Resting.{IsAtPlace, IsRooted, Keeps}

@@ -8,7 +8,7 @@ use Rattle.hm_model.specs.declared.entry.Entry.{Entry}
 use Rattle.hm_model.specs.declared.root.Root.{Root}
 use Rattle.hm_model.specs.Store.{PlainStore}
 use Rattle.hm_model.specs.Sight.{Rests, name_at}
-use Rattle.hm_core.specs.declared.part.Known.{Known}
+use Rattle.hm_moves.specs.declared.part.Known.{Known}
 use Rattle.hm_cells.specs.Facts.{Facts, Made, Fits, IsSound, IsHeldAt, find_version, known_at, names_at, nothing_known, place_name, sight_of, with_hand, with_root, without_first}
 use Rattle.hm_cells.proofs.Found.{among, found_first}
 use Rattle.hm_cells.proofs.Rooted.{name_place}

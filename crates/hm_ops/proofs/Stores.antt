@@ -11,10 +11,10 @@ use Rattle.hm_model.specs.declared.root.Root.{Root}
 use Rattle.hm_model.specs.Store.{PlainStore}
 use Rattle.hm_model.specs.Sight.{Enters, Sight, name_at}
 use Rattle.hm_model.proofs.Entering.{enters_rests}
-use Rattle.hm_core.specs.declared.part.Known.{Known}
-use Rattle.hm_core.specs.declared.moving.Act.{Act}
-use Rattle.hm_core.specs.declared.moving.Act.TheVariants.{LinkStore}
-use Rattle.hm_core.specs.Moving.{HasRoom, IsWritten, Spells, next_version}
+use Rattle.hm_moves.specs.declared.part.Known.{Known}
+use Rattle.hm_moves.specs.declared.moving.Act.{Act}
+use Rattle.hm_moves.specs.declared.moving.Act.TheVariants.{LinkStore}
+use Rattle.hm_moves.specs.Moving.{HasRoom, IsWritten, Spells, next_version}
 use Rattle.hm_cells.specs.declared.want.Want.{Want}
 use Rattle.hm_cells.specs.Facts.{Facts, Made, IsSound, IsHeldAt, known_at, names_at, place_name, sight_of, with_hand, with_root, without_first}
 use Rattle.hm_cells.specs.Calls.{Takes, linked, stored}
@@ -158,7 +158,7 @@ module _ {U : Type 0} (lawful : U → PlainStore → Type 0) (allowed : U → Pl
           let used : t.part.draft.used ≡ s.part.draft.used + 1 =
           ap (λ (x : Facts U). x.part.draft.used) took.is in
           let size : t.part.site.shape.versions ≡ s.part.site.shape.versions =
-          ap (λ (x : Rattle.hm_core.specs.declared.part.Site.Site U). x.shape.versions)
+          ap (λ (x : Rattle.hm_moves.specs.declared.part.Site.Site U). x.shape.versions)
           (site_kept lawful allowed s t act 0 took) in
           subst (Ends lawful allowed m s entry 1) (sym end) record {
             entry = enters_rests lawful allowed (sight_of s) (sight_of t) (sight_of (settled t r (Some made)))

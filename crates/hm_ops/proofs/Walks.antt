@@ -10,11 +10,11 @@ use Rattle.hm_model.specs.Store.{PlainStore}
 use Rattle.hm_model.specs.Sight.{Sight, name_at}
 use Rattle.hm_model.specs.Calls.{Fetches}
 use Rattle.hm_model.proofs.CallFacts.{fetches_enters}
-use Rattle.hm_core.specs.declared.part.Known.{Known}
-use Rattle.hm_core.specs.declared.moving.Act.{Act}
-use Rattle.hm_core.specs.declared.moving.Act.TheVariants.{LoadLink, LinkStore}
-use Rattle.hm_core.specs.Moving.{where_zero, entry_of, publishes}
-use Rattle.hm_core.specs.Good.{IsLink}
+use Rattle.hm_moves.specs.declared.part.Known.{Known}
+use Rattle.hm_moves.specs.declared.moving.Act.{Act}
+use Rattle.hm_moves.specs.declared.moving.Act.TheVariants.{LoadLink, LinkStore}
+use Rattle.hm_moves.specs.Moving.{where_zero, entry_of, publishes}
+use Rattle.hm_moves.specs.Good.{IsLink}
 use Rattle.hm_cells.specs.Facts.{Facts, Made, IsSound, IsHeldAt, IsLookable, known_at, names_at, place_name, sight_of, with_hand, with_root, without_first}
 use Rattle.hm_cells.specs.Calls.{Takes}
 use Rattle.hm_cells.proofs.Found.{same_version}
@@ -129,7 +129,7 @@ module _ {U : Type 0} (lawful : U → PlainStore → Type 0) (allowed : U → Pl
           { roots = names i } in
           let fit = known_fit lawful allowed t next after (held_lookable lawful allowed t next here.0) in
           let site : t.part.site.shape ≡ m.site.shape = ap (λ
-          (x : Rattle.hm_core.specs.declared.part.Site.Site U). x.shape) fits.site in
+          (x : Rattle.hm_moves.specs.declared.part.Site.Site U). x.shape) fits.site in
           let low_rank : (known_at t next).rank < version_count m.site.shape =
           subst (λ (x : Rattle.hm_shape.specs.declared.shape.Shape.Shape). (known_at t next).rank <
           version_count x) site fit.rank in

@@ -4,7 +4,7 @@ use Rattle.std.specs.Option.{option_to_list}
 use Rattle.hm_shape.specs.declared.version.Version.{Version}
 use Rattle.hm_model.specs.declared.entry.Entry.{Entry}
 use Rattle.hm_model.specs.Store.{PlainStore}
-use Rattle.hm_core.specs.Chain.{reference_at}
+use Rattle.hm_moves.specs.Chain.{reference_at}
 use Rattle.hm_cells.specs.declared.want.Want.TheVariants.{Store}
 use Rattle.hm_cells.specs.declared.want.WantField.{WantField}
 use Rattle.hm_cells.specs.Calls.{IsWholeCopy, turned}

@@ -8,7 +8,7 @@ use Rattle.hm_model.specs.declared.root.Root.{Root}
 use Rattle.hm_model.specs.Store.{PlainStore}
 use Rattle.hm_model.specs.Sight.{Rests, SetsRoot}
 use Rattle.hm_model.specs.Calls.{Fetches}
-use Rattle.hm_core.specs.Chain.{reference_at}
+use Rattle.hm_moves.specs.Chain.{reference_at}
 use Rattle.hm_cells.specs.Facts.{Facts, Made, known_at, names_at, room_of, sight_of}
 use Rattle.hm_cells.specs.Calls.{Tells}
 use Rattle.hm_ops.specs.Resting.{IsAtPlace, Keeps}

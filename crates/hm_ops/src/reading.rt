@@ -1,7 +1,7 @@
 //! Loads of what a version holds.
 ghost use Rattle.std.specs.Prelude.{◌≡◌, ◌+◌, ◌<◌, ◌≤◌, is_some, map, slice_index};
 ghost use Rattle.hm_model.specs.Sight.{Rests, SetsHand};
-ghost use Rattle.hm_core.specs.Chain.{reference_at};
+ghost use Rattle.hm_moves.specs.Chain.{reference_at};
 ghost use Rattle.hm_cells.specs.Facts.{sight_of};
 ghost use Rattle.hm_ops.specs.Resting.{IsRooted, IsRootedBeside, IsRootedOutside, Keeps};
 ghost use Rattle.hm_ops.specs.Walking.{Reads, ReadsInto, contents_at};

@@ -1,6 +1,6 @@
 use Rattle.std.proofs.Common.{◌≡◌, [], ◌∷◌, ◌++◌, ap, ◌∙◌, subst}
 use Rattle.atomic_table.specs.Table.{Me}
-use Rattle.hm_core.specs.Good.{longer}
+use Rattle.hm_moves.specs.Good.{longer}
 use Rattle.hm_cells.specs.declared.knowledge.Knowledge.{Knowledge}
 use Rattle.hm_cells.specs.Calls.{Meets, NoteFacts}
 use Rattle.hm_cells.specs.Facts.{Facts}

@@ -1,4 +1,4 @@
-use Rattle.hm_core.specs.declared.moving.Act.TheVariants.{StoreOwn}
+use Rattle.hm_moves.specs.declared.moving.Act.TheVariants.{StoreOwn}
 use Rattle.hm_cells.specs.Calls.{move_by}
 use Rattle.hm_cells.specs.Shows.{facts_of}
 use Rattle.hm_cells.proofs.notes.meet.Given as goal

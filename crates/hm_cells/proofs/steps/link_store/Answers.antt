@@ -1,7 +1,7 @@
 use Rattle.std.proofs.Common.{rules, ◌≡◌, ◌∙◌, ◌+◌, ℕ, Some, ap, sym, subst}
 use Rattle.hm_shape.specs.Words.{naming_word}
-use Rattle.hm_core.specs.declared.part.Known.{Known}
-use Rattle.hm_core.specs.declared.moving.Act.TheVariants.{LinkStore}
+use Rattle.hm_moves.specs.declared.part.Known.{Known}
+use Rattle.hm_moves.specs.declared.moving.Act.TheVariants.{LinkStore}
 use Rattle.hm_cells.specs.Facts.{Facts, known_at}
 use Rattle.hm_cells.specs.Calls.{Takes, linked, stored}
 use Rattle.hm_cells.specs.Grips.{Gripped}

@@ -1,4 +1,4 @@
-use Rattle.hm_core.specs.declared.moving.Act.TheVariants.{LinkStore}
+use Rattle.hm_moves.specs.declared.moving.Act.TheVariants.{LinkStore}
 use Rattle.hm_cells.specs.Facts.{known_at}
 use Rattle.hm_cells.specs.Calls.{linked, move_by, stored}
 use Rattle.hm_cells.specs.Shows.{facts_of}

@@ -1,5 +1,5 @@
 use Rattle.std.proofs.Common.{◌∙◌, ap, subst}
-use Rattle.hm_core.specs.Stepping.{field_act}
+use Rattle.hm_moves.specs.Moving.{field_act}
 use Rattle.hm_cells.specs.Facts.{Facts, known_at}
 use Rattle.hm_cells.specs.Calls.{Takes}
 use Rattle.hm_cells.specs.Grips.{Gripped}

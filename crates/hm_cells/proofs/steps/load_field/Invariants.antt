@@ -1,4 +1,4 @@
-use Rattle.hm_core.specs.Stepping.{field_act}
+use Rattle.hm_moves.specs.Moving.{field_act}
 use Rattle.hm_cells.specs.Facts.{known_at}
 use Rattle.hm_cells.specs.Calls.{move_by}
 use Rattle.hm_cells.specs.Shows.{facts_of}

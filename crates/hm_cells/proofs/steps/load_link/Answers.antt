@@ -1,5 +1,5 @@
 use Rattle.std.proofs.Common.{rules, ℕ, ◌∙◌, ap, sym, subst, arith}
-use Rattle.hm_core.specs.declared.moving.Act.TheVariants.{LoadLink}
+use Rattle.hm_moves.specs.declared.moving.Act.TheVariants.{LoadLink}
 use Rattle.hm_cells.specs.Facts.{Facts, known_at}
 use Rattle.hm_cells.specs.Calls.{MayWant, Takes, wanted}
 use Rattle.hm_cells.specs.Grips.{Gripped}

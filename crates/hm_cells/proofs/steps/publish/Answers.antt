@@ -1,5 +1,5 @@
 use Rattle.std.proofs.Common.{◌+◌, ◌∙◌, refl, ap, subst}
-use Rattle.hm_core.specs.declared.moving.Act.TheVariants.{Publish}
+use Rattle.hm_moves.specs.declared.moving.Act.TheVariants.{Publish}
 use Rattle.hm_cells.specs.Facts.{Facts}
 use Rattle.hm_cells.specs.Calls.{Takes, drafted}
 use Rattle.hm_cells.specs.Grips.{Gripped}

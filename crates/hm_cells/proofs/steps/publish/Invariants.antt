@@ -1,4 +1,4 @@
-use Rattle.hm_core.specs.declared.moving.Act.TheVariants.{Publish}
+use Rattle.hm_moves.specs.declared.moving.Act.TheVariants.{Publish}
 use Rattle.hm_cells.specs.Calls.{drafted, move_by}
 use Rattle.hm_cells.specs.Shows.{facts_of}
 use Rattle.hm_cells.proofs.steps.publish.Given as goal

@@ -1,7 +1,7 @@
 -- So many hands hold the common object's version so far.
 use Rattle.std.proofs.Common.{◌≡◌, [], ◌∷◌, replicate}
 use Rattle.hm_shape.specs.Versions.{version_count}
-use Rattle.hm_core.specs.Moving.{nothing_written}
+use Rattle.hm_moves.specs.Moving.{nothing_written}
 use Rattle.hm_core.proofs.starting.starting_hands.Given as goal
 
 abbrev pub invariant-loop : goal.invariant-loop

@@ -1,6 +1,6 @@
 use Rattle.std.proofs.Common.{◌≡◌, ◌+◌, ◌<◌, ◌≤◌, ◌⊎◌, ℕ, false, length, slice_index_or, is_some}
 use Rattle.hm_model.specs.Sight.{Rests, name_at}
-use Rattle.hm_core.specs.Chain.{reference_at}
+use Rattle.hm_moves.specs.Chain.{reference_at}
 use Rattle.hm_cells.specs.Facts.{known_at, names_at, sight_of}
 use Rattle.hm_ops.specs.Resting.{IsRootedOutside, Keeps}
 use Rattle.hm_ops.specs.Walking.{contents_at}

@@ -1,6 +1,6 @@
 use Rattle.std.proofs.Common.{refl}
 use Rattle.hm_cells.specs.Facts.{known_at}
-use Rattle.hm_core.specs.declared.moving.Act.TheVariants.{LoadStamp}
+use Rattle.hm_moves.specs.declared.moving.Act.TheVariants.{LoadStamp}
 use Rattle.hm_ops.proofs.Readings.{reads_plain, rooted_look}
 use Rattle.hm_ops.proofs.reading.read_stamp.Goals as goal
 

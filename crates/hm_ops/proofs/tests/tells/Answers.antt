@@ -1,4 +1,4 @@
-use Rattle.hm_core.specs.Good.{longer}
+use Rattle.hm_moves.specs.Good.{longer}
 use Rattle.hm_ops.proofs.Between.{rested_rests}
 use Rattle.hm_ops.proofs.tests.tells.Goals as goal
 

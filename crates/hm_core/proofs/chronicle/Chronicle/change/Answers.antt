@@ -2,7 +2,7 @@
 use Rattle.std.proofs.Common.{ap}
 use Rattle.hm_model.specs.History.{store_of}
 use Rattle.hm_core.specs.Chronicles.{ChronicleState, StandsAt}
-use Rattle.hm_core.proofs.Held.{from_some}
+use Rattle.hm_moves.proofs.Held.{from_some}
 use Rattle.hm_core.proofs.ChronicleFacts.{chronicle_changed}
 use Rattle.hm_core.proofs.chronicle.Chronicle.change.Goals as goal
 

@@ -1,6 +1,6 @@
 -- The table stays as it is, and so does the number of words.
 use Rattle.std.proofs.Common.{[], length, sym, ap, ◌∙◌}
-use Rattle.hm_core.specs.declared.part.Known.{Known}
+use Rattle.hm_moves.specs.declared.part.Known.{Known}
 use Rattle.hm_core.proofs.HandFacts.{unnamed_long}
 use Rattle.hm_core.proofs.hand.Hand.unname.Goals as goal
 

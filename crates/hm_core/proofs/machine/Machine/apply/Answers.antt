@@ -1,9 +1,9 @@
 use Rattle.std.proofs.Common.{◌<◌, ℕ, Option, IfSome, Contains, length, sym, ◌∙◌, subst}
 use Rattle.hm_model.specs.declared.usage.AnyUsage.{AnyUsage}
-use Rattle.hm_core.specs.declared.part.Known.{Known}
+use Rattle.hm_moves.specs.declared.part.Known.{Known}
 use Rattle.hm_core.specs.declared.step.StepKind.{StepKind}
-use Rattle.hm_core.specs.Good.{Core}
-use Rattle.hm_core.specs.Safe.{Leads, here}
+use Rattle.hm_moves.specs.Good.{Core}
+use Rattle.hm_moves.specs.Safe.{Leads, here}
 use Rattle.hm_core.specs.Stepping.{HasSeat}
 use Rattle.hm_core.specs.Running.{Moment, any_store, any_entry, core_of, own_part}
 use Rattle.hm_core.specs.Taking.{Takes}

@@ -1,5 +1,5 @@
 use Rattle.hm_core.specs.Running.{core_of}
-use Rattle.hm_core.proofs.Ends.{chains_end}
+use Rattle.hm_moves.proofs.Ends.{chains_end}
 use Rattle.hm_core.proofs.machine.Machine.apply_all.Goals as goal
 
 pub returns-clause-ends : goal.returns-clause-ends

@@ -1,6 +1,6 @@
 use Rattle.std.proofs.Common.{◌+◌, ℕ, None, below_more, sym, ◌∙◌, get_or}
 use Rattle.hm_shape.specs.declared.version.TheConstants.{FIRST_REFERENCE}
-use Rattle.hm_core.specs.Moving.{IsWritten, Spells}
+use Rattle.hm_moves.specs.Moving.{IsWritten, Spells}
 use Rattle.hm_core.specs.Running.{own_part}
 use Rattle.hm_core.proofs.machine.Machine.are_spelled.Goals as goal
 

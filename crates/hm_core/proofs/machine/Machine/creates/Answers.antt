@@ -2,7 +2,7 @@ use Rattle.std.proofs.Common.{◌≡◌, sym, ◌∙◌, subst}
 use Rattle.hm_model.specs.declared.object.Contents.{Contents}
 use Rattle.hm_model.specs.declared.entry.Entry.{Entry}
 use Rattle.hm_core.specs.declared.step.StepKind.TheVariants.{Publish}
-use Rattle.hm_core.specs.Moving.{IsBuilt}
+use Rattle.hm_moves.specs.Moving.{IsBuilt}
 use Rattle.hm_core.specs.Stepping.{Fits}
 use Rattle.hm_core.specs.Running.{core_of, own_part}
 use Rattle.hm_core.proofs.CheckFacts.{create_fits, fits_create}

@@ -1,7 +1,7 @@
 use Rattle.std.proofs.Common.{◌≡◌, Some, None, true, sym, ◌∙◌, subst}
-use Rattle.hm_core.specs.declared.part.Known.{Known}
-use Rattle.hm_core.specs.Chain.{lookup}
-use Rattle.hm_core.specs.Moving.{is_naming}
+use Rattle.hm_moves.specs.declared.part.Known.{Known}
+use Rattle.hm_moves.specs.Chain.{lookup}
+use Rattle.hm_moves.specs.Moving.{is_naming}
 use Rattle.hm_core.specs.Running.{index_of, own_part}
 use Rattle.hm_core.specs.Stepping.{IsHeld}
 use Rattle.hm_core.proofs.Moments.{only_one}

@@ -3,12 +3,12 @@ use Rattle.std.proofs.Common.{◌≡◌, List, length, All, refl, sym, ap, ◌�
 use Rattle.hm_model.specs.declared.entry.Entry.{Entry}
 use Rattle.hm_model.specs.History.{AllStand}
 use Rattle.hm_model.proofs.Openings.{opening_stands}
-use Rattle.hm_core.specs.declared.part.Known.{Known}
+use Rattle.hm_moves.specs.declared.part.Known.{Known}
 use Rattle.hm_core.specs.Running.{Moment, IsSound}
 use Rattle.hm_core.specs.Chronicles.{ChronicleState}
-use Rattle.hm_core.specs.Fresh.{all_known}
+use Rattle.hm_moves.specs.Fresh.{all_known}
 use Rattle.hm_core.specs.Firsts.{IsFreshMachine, IsWritable, creates_of}
-use Rattle.hm_core.proofs.Fresh.{many}
+use Rattle.hm_moves.proofs.Fresh.{many}
 use Rattle.hm_core.proofs.FirstMoment.{first_sound, first_fresh, moment_is}
 use Rattle.hm_core.proofs.FirstWords.{first_writable, opening_created}
 use Rattle.hm_core.proofs.machine.Machine.new.Goals as goal

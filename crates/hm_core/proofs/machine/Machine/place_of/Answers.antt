@@ -1,8 +1,8 @@
 use Rattle.std.proofs.Common.{subst}
 use Rattle.hm_model.specs.Store.{IsThere}
 use Rattle.hm_model.specs.History.{store_of}
-use Rattle.hm_core.specs.declared.moving.Act.{Act}
-use Rattle.hm_core.specs.Moving.{MayTake}
+use Rattle.hm_moves.specs.declared.moving.Act.{Act}
+use Rattle.hm_moves.specs.Moving.{MayTake}
 use Rattle.hm_core.specs.Running.{own_part, IsSound}
 use Rattle.hm_core.proofs.Looking.{look_index}
 use Rattle.hm_core.proofs.Moments.{known_fit}

@@ -1,8 +1,8 @@
 use Rattle.std.proofs.Common.{◌≡◌, Option, Some, None, sym, ap, ◌∙◌, subst}
 use Rattle.hm_model.specs.declared.object.Name.{Name}
-use Rattle.hm_core.specs.declared.part.Known.{Known}
-use Rattle.hm_core.specs.Chain.{lookup}
-use Rattle.hm_core.specs.Moving.{Spells}
+use Rattle.hm_moves.specs.declared.part.Known.{Known}
+use Rattle.hm_moves.specs.Chain.{lookup}
+use Rattle.hm_moves.specs.Moving.{Spells}
 use Rattle.hm_core.specs.Running.{index_of, own_part}
 use Rattle.hm_core.specs.Stepping.{IsHeld}
 use Rattle.hm_core.proofs.Moments.{only_one}

@@ -1,6 +1,6 @@
 use Rattle.std.proofs.Common.{rules, ◌≡◌, ◌+◌, ◌*◌, ◌++◌, ℕ, length, set, refl, sym, ap, ◌∙◌, subst, arith}
 use Rattle.std.specs.Prelude.{slice_index}
-use Rattle.hm_core.specs.Moving.{count_of, listed, word_of}
+use Rattle.hm_moves.specs.Moving.{count_of, listed, word_of}
 use Rattle.hm_core.specs.Hands.{HandState, hand_moved}
 use Rattle.hm_core.specs.SeatStates.{SeatState}
 use Rattle.hm_core.specs.Chronicles.{ChronicleState}

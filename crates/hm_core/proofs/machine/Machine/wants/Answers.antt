@@ -2,7 +2,7 @@ use Rattle.std.proofs.Common.{refl, Option, IfSome, sym, subst}
 use Rattle.hm_model.specs.declared.entry.Entry.{Entry}
 use Rattle.hm_model.specs.Store.{IsThere}
 use Rattle.hm_model.specs.History.{store_of}
-use Rattle.hm_core.specs.Moving.{Reads}
+use Rattle.hm_moves.specs.Moving.{Reads}
 use Rattle.hm_core.specs.Running.{own_part}
 use Rattle.hm_core.proofs.CheckFacts.{wants_fit}
 use Rattle.hm_core.proofs.machine.Machine.wants.Goals as goal

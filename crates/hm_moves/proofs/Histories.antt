@@ -9,8 +9,8 @@ use Rattle.hm_model.specs.Effect.{caller_of, Stands}
 use Rattle.hm_model.specs.History.{store_after, store_of, AllStand, calls_of, AreOthers, opening_of}
 use Rattle.hm_model.specs.Lawful.{MayCome, AllCome, IsLawful, UsageLaws}
 use Rattle.hm_model.proofs.HistoryFacts.{store_after-append, calls_of-append, all_stand_parts, all_come_parts, lawful_more}
-use Rattle.hm_core.specs.Moving.{listed, MayMake}
-use Rattle.hm_core.specs.Good.{Begins, AreBelow, longer, HasCalls}
+use Rattle.hm_moves.specs.Moving.{listed, MayMake}
+use Rattle.hm_moves.specs.Good.{Begins, AreBelow, longer, HasCalls}
 
 -- the entry, if there is one, is by this caller
 abbrev pub IsBy : ℕ → Option Entry → Type 0

@@ -23,14 +23,14 @@ use Rattle.hm_model.proofs.StoreFacts.{is_same-self, is_same-other}
 use Rattle.hm_model.proofs.EffectFacts.{there_contents}
 use Rattle.hm_model.proofs.HistoryFacts.{store_after-append}
 use Rattle.hm_model.proofs.Openings.{lawful_opening}
-use Rattle.hm_core.specs.declared.part.Known.{Known}
-use Rattle.hm_core.specs.declared.part.Site.{Site}
-use Rattle.hm_core.specs.Chain.{Index, Heap, IsPublished, AreTrue, AreChained, ArePlaced, IsLinked, link_of, row_count, total}
-use Rattle.hm_core.specs.Good.{Begins, AreBelow, HeapIsGood, PartIsGood, Core, Good}
-use Rattle.hm_core.specs.Fresh.{starting_known, side_known, common_known, all_known, fresh_index, fresh_used, fresh_part, IsFreshCore}
-use Rattle.hm_core.proofs.Histories.{below-append, begins_self}
-use Rattle.hm_core.proofs.Placed.{published_once, place_small, same_row}
-use Rattle.hm_core.proofs.Held.{none_written, contains_first}
+use Rattle.hm_moves.specs.declared.part.Known.{Known}
+use Rattle.hm_moves.specs.declared.part.Site.{Site}
+use Rattle.hm_moves.specs.Chain.{Index, Heap, IsPublished, AreTrue, AreChained, ArePlaced, IsLinked, link_of, row_count, total}
+use Rattle.hm_moves.specs.Good.{Begins, AreBelow, HeapIsGood, PartIsGood, Core, Good}
+use Rattle.hm_moves.specs.Fresh.{starting_known, side_known, common_known, all_known, fresh_index, fresh_used, fresh_part, IsFreshCore}
+use Rattle.hm_moves.proofs.Histories.{below-append, begins_self}
+use Rattle.hm_moves.proofs.Placed.{published_once, place_small, same_row}
+use Rattle.hm_moves.proofs.Held.{none_written, contains_first}
 
 -- versions are numbered from k on, each the first of its object
 pub record IsNumbered (k : ℕ) (m : Known) : Type 0 where

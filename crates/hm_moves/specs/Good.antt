@@ -13,17 +13,17 @@ use Rattle.hm_model.specs.Store.{PlainStore}
 use Rattle.hm_model.specs.Effect.{caller_of}
 use Rattle.hm_model.specs.History.{store_of, calls_of, AreOthers, opening_of}
 use Rattle.hm_model.specs.Lawful.{IsLawful}
-use Rattle.hm_core.specs.declared.part.Known.{Known}
-use Rattle.hm_core.specs.declared.part.Site.{Site}
-use Rattle.hm_core.specs.declared.part.Draft.{Draft}
-use Rattle.hm_core.specs.declared.part.Hands.{Hands}
-use Rattle.hm_core.specs.declared.part.Part.{Part}
-use Rattle.hm_core.specs.declared.part.View.{View}
-use Rattle.hm_core.specs.declared.moving.Act.{Act}
-use Rattle.hm_core.specs.declared.moving.Act.TheVariants.{LoadStamp, LoadReference, LoadNumber, LoadLink, StoreOwn, Publish, LinkStore}
-use Rattle.hm_core.specs.declared.moving.Move.{Move}
-use Rattle.hm_core.specs.Chain.{Index, Heap, IsPublished, ArePlaced, IsFit, AreChained, AreTrue, reference_at, row_of}
-use Rattle.hm_core.specs.Moving.{word_of, publishes, finds, heap_after, part_after, view, view_after, is_naming, IsWritten, Names}
+use Rattle.hm_moves.specs.declared.part.Known.{Known}
+use Rattle.hm_moves.specs.declared.part.Site.{Site}
+use Rattle.hm_moves.specs.declared.part.Draft.{Draft}
+use Rattle.hm_moves.specs.declared.part.Hands.{Hands}
+use Rattle.hm_moves.specs.declared.part.Part.{Part}
+use Rattle.hm_moves.specs.declared.part.View.{View}
+use Rattle.hm_moves.specs.declared.moving.Act.{Act}
+use Rattle.hm_moves.specs.declared.moving.Act.TheVariants.{LoadStamp, LoadReference, LoadNumber, LoadLink, StoreOwn, Publish, LinkStore}
+use Rattle.hm_moves.specs.declared.moving.Move.{Move}
+use Rattle.hm_moves.specs.Chain.{Index, Heap, IsPublished, ArePlaced, IsFit, AreChained, AreTrue, reference_at, row_of}
+use Rattle.hm_moves.specs.Moving.{word_of, publishes, finds, heap_after, part_after, view, view_after, is_naming, IsWritten, Names}
 
 -- a list begins with another
 pub record Begins (xs ys : List Entry) : Type 0 where

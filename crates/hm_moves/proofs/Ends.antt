@@ -3,11 +3,11 @@ use Rattle.std.proofs.Common.{◌≡◌, ◌≤◌, ◌<◌, ◌+◌, ℕ, zero,
 use Rattle.hm_shape.specs.declared.shape.Shape.{Shape}
 use Rattle.hm_shape.specs.Versions.{version_count}
 use Rattle.hm_shape.specs.Words.{naming_word}
-use Rattle.hm_core.specs.declared.part.Known.{Known}
-use Rattle.hm_core.specs.Chain.{Heap, IsPublished, link_of, row_count, total}
-use Rattle.hm_core.specs.Safe.{IsForward, KeepsChains, KeepsRanks}
-use Rattle.hm_core.specs.Ends.{ChainsEnd, EndsAfter, Links}
-use Rattle.hm_core.proofs.Placed.{total_small}
+use Rattle.hm_moves.specs.declared.part.Known.{Known}
+use Rattle.hm_moves.specs.Chain.{Heap, IsPublished, link_of, row_count, total}
+use Rattle.hm_moves.specs.Safe.{IsForward, KeepsChains, KeepsRanks}
+use Rattle.hm_moves.specs.Ends.{ChainsEnd, EndsAfter, Links}
+use Rattle.hm_moves.proofs.Placed.{total_small}
 
 module _ (s : Shape) (h : Heap) (chains : KeepsChains s h) (ranks : KeepsRanks s h) where
   -- the published version that a link names has a greater rank

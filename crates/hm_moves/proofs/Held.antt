@@ -5,8 +5,8 @@ use Rattle.std.proofs.lemmas.Grind.{common_steps}
 use Rattle.std.proofs.lemmas.List.Elements.{Contains-push_cases, Contains-append_left}
 use native.Mathlib.Decide.{dec_le}
 use Rattle.hm_shape.specs.Words.{naming_word}
-use Rattle.hm_core.specs.declared.part.Known.{Known}
-use Rattle.hm_core.specs.Moving.{listed, is_version, without, with_held, is_naming, unless_named, unnamed_from, unnamed, nothing_written, IsWritten, Names}
+use Rattle.hm_moves.specs.declared.part.Known.{Known}
+use Rattle.hm_moves.specs.Moving.{listed, is_version, without, with_held, is_naming, unless_named, unnamed_from, unnamed, nothing_written, IsWritten, Names}
 
 -- a list with one more or none
 pub listed_cases : {A : Type 0} (l : List A) (o : Option A) (a : A) → Contains (l ++ listed o) a

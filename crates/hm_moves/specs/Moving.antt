@@ -1,5 +1,5 @@
 -- A move of a caller, cut into the word that it moves, what it appends, and what the caller knows afterwards.
-use Rattle.std.specs.Prelude.{◌≡◌, ◌≢◌, ℕ, zero, suc, ◌+◌, ◌<◌, ◌==◌, ◌&&◌, ◌||◌, ◌⊎◌, not, nat_le, nat_lt, Bool, true, List, [], ◌∷◌, ◌++◌, length, slice_index, slice_index_or, slice_set, Option, Some, None, IfSome, Contains, All, filter, replicate, if◌then◌else◌}
+use Rattle.std.specs.Prelude.{◌≡◌, ◌≢◌, ℕ, zero, suc, ◌+◌, ◌-◌, ◌<◌, ◌≤◌, ◌==◌, ◌&&◌, ◌||◌, ◌⊎◌, not, nat_le, nat_lt, Bool, true, List, [], ◌∷◌, ◌++◌, length, slice_index, slice_index_or, slice_set, Option, Some, None, IsSome, IfSome, Contains, All, filter, replicate, if◌then◌else◌}
 use Rattle.std.specs.List.{list_any}
 use Rattle.hm_shape.specs.declared.version.Version.{Version}
 use Rattle.hm_shape.specs.declared.version.TheConstants.{FIRST_NUMBER, FIRST_REFERENCE, LINK, STAMP, VERSION_WORDS}
@@ -16,20 +16,27 @@ use Rattle.hm_model.specs.Store.{Refs, IsSized, PlainStore, IsThere}
 use Rattle.hm_model.specs.Effect.{Stands, with_field, with_all}
 use Rattle.hm_model.specs.History.{store_after, store_of, AreOthers, create_count}
 use Rattle.hm_model.specs.Lawful.{AllCome}
-use Rattle.hm_core.specs.declared.part.Known.{Known}
-use Rattle.hm_core.specs.declared.part.Draft.{Draft}
-use Rattle.hm_core.specs.declared.part.Hands.{Hands}
-use Rattle.hm_core.specs.declared.part.Part.{Part}
-use Rattle.hm_core.specs.declared.part.View.{View}
-use Rattle.hm_core.specs.declared.part.TheConstants.{MOST_HELD}
-use Rattle.hm_core.specs.declared.moving.Act.{Act}
-use Rattle.hm_core.specs.declared.moving.Act.TheVariants.{LoadStamp, LoadReference, LoadNumber, LoadLink, StoreOwn, Publish, LinkStore}
-use Rattle.hm_core.specs.declared.moving.Move.{Move}
-use Rattle.hm_core.specs.Chain.{Index, Heap, lookup, with_one, row_of, reference_at}
+use Rattle.hm_moves.specs.declared.part.Known.{Known}
+use Rattle.hm_moves.specs.declared.part.Draft.{Draft}
+use Rattle.hm_moves.specs.declared.part.Hands.{Hands}
+use Rattle.hm_moves.specs.declared.part.Part.{Part}
+use Rattle.hm_moves.specs.declared.part.View.{View}
+use Rattle.hm_moves.specs.declared.part.TheConstants.{MOST_HELD}
+use Rattle.hm_moves.specs.declared.moving.Act.{Act}
+use Rattle.hm_moves.specs.declared.moving.Act.TheVariants.{LoadStamp, LoadReference, LoadNumber, LoadLink, StoreOwn, Publish, LinkStore}
+use Rattle.hm_moves.specs.declared.moving.Move.{Move}
+use Rattle.hm_moves.specs.Chain.{Index, Heap, lookup, with_one, row_of, reference_at}
 
 -- a caller's next version lies at the first place of its region that is not used
 abbrev pub next_version : {U : Type 0} → Part U → Version
 next_version p = version_at p.site.shape p.number p.draft.region p.draft.used
+
+-- a word of a version is loaded as its stamp, a reference or a number
+abbrev pub field_act : Known → ℕ → Act
+field_act at i =
+    if i == STAMP then LoadStamp at
+    else if nat_lt i FIRST_NUMBER then LoadReference at (i - FIRST_REFERENCE)
+    else LoadNumber at (i - FIRST_NUMBER)
 
 -- each act moves one word
 abbrev pub word_of : {U : Type 0} → Part U → Act → ℕ
@@ -281,6 +288,11 @@ module _ {U : Type 0} where
   -- the caller may hold one version more
   abbrev pub HasHand : Part U → Type 0
   HasHand p = length p.hands.held < MOST_HELD
+
+  -- words of the caller's next version are written, from one on
+  abbrev pub AreWrittenFrom : Part U → ℕ → Type 0
+  AreWrittenFrom p first = (j : ℕ) → first ≤ j → j < VERSION_WORDS
+      → IsSome (slice_index_or p.draft.written j None)
 
   -- an entry is the caller's own, on the object of a version
   pub record IsOwnOn (p : Part U) (k : Known) (q : ℕ) (n : Name) : Type 0 where

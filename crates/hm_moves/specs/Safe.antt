@@ -6,15 +6,15 @@ use Rattle.hm_shape.specs.declared.shape.Shape.{Shape}
 use Rattle.hm_model.specs.declared.entry.Entry.{Entry}
 use Rattle.hm_model.specs.Store.{PlainStore, contents_of}
 use Rattle.hm_model.specs.History.{store_of, calls_of, IsLegal}
-use Rattle.hm_core.specs.declared.part.Known.{Known}
-use Rattle.hm_core.specs.declared.part.Site.{Site}
-use Rattle.hm_core.specs.declared.part.Part.{Part}
-use Rattle.hm_core.specs.declared.part.View.{View}
-use Rattle.hm_core.specs.declared.moving.Move.{Move}
-use Rattle.hm_core.specs.Chain.{Index, Heap, IsPublished, HasContents, Follows, link_of, row_count, total}
-use Rattle.hm_core.specs.Moving.{IsLawfulMove}
-use Rattle.hm_core.specs.Good.{Begins, Core, Carries, applied, split, joined}
-use Rattle.hm_core.specs.Fresh.{IsFreshCore}
+use Rattle.hm_moves.specs.declared.part.Known.{Known}
+use Rattle.hm_moves.specs.declared.part.Site.{Site}
+use Rattle.hm_moves.specs.declared.part.Part.{Part}
+use Rattle.hm_moves.specs.declared.part.View.{View}
+use Rattle.hm_moves.specs.declared.moving.Move.{Move}
+use Rattle.hm_moves.specs.Chain.{Index, Heap, IsPublished, HasContents, Follows, link_of, row_count, total}
+use Rattle.hm_moves.specs.Moving.{IsLawfulMove}
+use Rattle.hm_moves.specs.Good.{Begins, Core, Carries, applied, split, joined}
+use Rattle.hm_moves.specs.Fresh.{IsFreshCore}
 
 -- each published version with link 0 has the contents that the store gives to its name
 pub record KeepsContents (s : Shape) (h : Heap) : Type 0 where

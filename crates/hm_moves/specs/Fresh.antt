@@ -8,13 +8,13 @@ use Rattle.hm_model.specs.declared.object.Start.{Start}
 use Rattle.hm_model.specs.Store.{Numbers}
 use Rattle.hm_model.specs.Effect.{new_contents}
 use Rattle.hm_model.specs.History.{calls_of, opening_of, side_count, side_names, starting_count, starting_name}
-use Rattle.hm_core.specs.declared.part.Known.{Known}
-use Rattle.hm_core.specs.declared.part.Site.{Site}
-use Rattle.hm_core.specs.declared.part.Part.{Part}
-use Rattle.hm_core.specs.declared.part.View.{View}
-use Rattle.hm_core.specs.Chain.{Index, Heap, IsPublished, AreTrue, link_of}
-use Rattle.hm_core.specs.Moving.{nothing_written}
-use Rattle.hm_core.specs.Good.{Core, Carries}
+use Rattle.hm_moves.specs.declared.part.Known.{Known}
+use Rattle.hm_moves.specs.declared.part.Site.{Site}
+use Rattle.hm_moves.specs.declared.part.Part.{Part}
+use Rattle.hm_moves.specs.declared.part.View.{View}
+use Rattle.hm_moves.specs.Chain.{Index, Heap, IsPublished, AreTrue, link_of}
+use Rattle.hm_moves.specs.Moving.{nothing_written}
+use Rattle.hm_moves.specs.Good.{Core, Carries}
 
 -- a starting object is known by its number, which is that of its version too
 abbrev pub starting_known : ℕ → Contents → Known

@@ -8,9 +8,9 @@ use Rattle.hm_shape.specs.declared.version.Version.{Version}
 use Rattle.hm_shape.specs.Versions.{IsVersionOf}
 use Rattle.hm_shape.specs.Words.{word_at, word_count}
 use Rattle.hm_model.specs.declared.object.Name.{Name}
-use Rattle.hm_core.specs.declared.part.Known.{Known}
-use Rattle.hm_core.specs.Chain.{Index, IsPublished, with_one, words_at, Refers, Follows, HasContents, AreTrue, IsSizedVersion, ArePlaced, row_count, total, reference_at}
-use Rattle.hm_core.specs.Moving.{used_with}
+use Rattle.hm_moves.specs.declared.part.Known.{Known}
+use Rattle.hm_moves.specs.Chain.{Index, IsPublished, with_one, words_at, Refers, Follows, HasContents, AreTrue, IsSizedVersion, ArePlaced, row_count, total, reference_at}
+use Rattle.hm_moves.specs.Moving.{used_with}
 
 -- a version that is published last is published
 pub published_here : (index : Index) (k : Known) → IsPublished (with_one index k) k

@@ -12,19 +12,19 @@ use Rattle.hm_model.specs.declared.entry.Entry.{Entry}
 use Rattle.hm_model.specs.Store.{PlainStore}
 use Rattle.hm_model.specs.History.{calls_of, opening_of}
 use Rattle.hm_model.specs.Lawful.{IsLawful}
-use Rattle.hm_core.specs.declared.part.Known.{Known}
-use Rattle.hm_core.specs.declared.part.Part.{Part}
-use Rattle.hm_core.specs.declared.moving.Act.{Act}
-use Rattle.hm_core.specs.declared.moving.Act.TheVariants.{LoadStamp, LoadReference, LoadNumber, LoadLink, StoreOwn, Publish, LinkStore}
-use Rattle.hm_core.specs.declared.moving.Move.{Move}
-use Rattle.hm_core.specs.Chain.{Heap, IsPublished, row_of}
-use Rattle.hm_core.specs.Moving.{next_version, word_of, becomes, heap_after, entry_of, publishes, finds, listed, index_with, used_with, row_of_part, count_of, is_naming, written_with, without, with_held, hands_after, part_after, seen_after, IsWritten, Names, HasRoom, IsWritable, MayLookInto, MayTake}
-use Rattle.hm_core.specs.Good.{Begins, HeapIsGood, PartIsGood, HasCalls, AreIndexed}
-use Rattle.hm_core.proofs.Histories.{IsBy, calls_after, calls_beside, begins_more, begins_on, begins_self, lawful_before}
-use Rattle.hm_core.proofs.Placed.{published_either, used_here, used_else, same_row, elsewhere, written_here}
-use Rattle.hm_core.proofs.Held.{listed_cases, from_some, held_cases, held_stays, without_held, none_written, written_low, unnamed_wide, unnamed_was, names_without, names_more}
-use Rattle.hm_core.proofs.Heaps.{same_word, look_published, next_small}
-use Rattle.hm_core.proofs.Finding.{next_now, index_more, index_here, entry_by, fresh_now, found_now}
+use Rattle.hm_moves.specs.declared.part.Known.{Known}
+use Rattle.hm_moves.specs.declared.part.Part.{Part}
+use Rattle.hm_moves.specs.declared.moving.Act.{Act}
+use Rattle.hm_moves.specs.declared.moving.Act.TheVariants.{LoadStamp, LoadReference, LoadNumber, LoadLink, StoreOwn, Publish, LinkStore}
+use Rattle.hm_moves.specs.declared.moving.Move.{Move}
+use Rattle.hm_moves.specs.Chain.{Heap, IsPublished, row_of}
+use Rattle.hm_moves.specs.Moving.{next_version, word_of, becomes, heap_after, entry_of, publishes, finds, listed, index_with, used_with, row_of_part, count_of, is_naming, written_with, without, with_held, hands_after, part_after, seen_after, IsWritten, Names, HasRoom, IsWritable, MayLookInto, MayTake}
+use Rattle.hm_moves.specs.Good.{Begins, HeapIsGood, PartIsGood, HasCalls, AreIndexed}
+use Rattle.hm_moves.proofs.Histories.{IsBy, calls_after, calls_beside, begins_more, begins_on, begins_self, lawful_before}
+use Rattle.hm_moves.proofs.Placed.{published_either, used_here, used_else, same_row, elsewhere, written_here}
+use Rattle.hm_moves.proofs.Held.{listed_cases, from_some, held_cases, held_stays, without_held, none_written, written_low, unnamed_wide, unnamed_was, names_without, names_more}
+use Rattle.hm_moves.proofs.Heaps.{same_word, look_published, next_small}
+use Rattle.hm_moves.proofs.Finding.{next_now, index_more, index_here, entry_by, fresh_now, found_now}
 
 module _ {U : Type 0} (lawful : U → PlainStore → Type 0) (allowed : U → PlainStore → Entry → Type 0)
     (h : Heap) (seen : List Entry) (p : Part U) (good : HeapIsGood lawful allowed p.site h)
@@ -247,7 +247,7 @@ module _ {U : Type 0} (lawful : U → PlainStore → Type 0) (allowed : U → Pl
         (omega arith)
       where
         row_below_of : (n : ℕ) → n < s.callers → row_of s n q.draft.region < s.callers * s.regions
-        row_below_of n low = Rattle.hm_core.proofs.Placed.place_small n s.callers s.regions q.draft.region low
+        row_below_of n low = Rattle.hm_moves.proofs.Placed.place_small n s.callers s.regions q.draft.region low
             theirs.draft.region
 
     not_looked : (k : Known) → MayLookInto p k → q.draft.used < s.versions → their_next.0 ≢ k.version.0

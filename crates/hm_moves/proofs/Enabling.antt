@@ -10,17 +10,17 @@ use Rattle.hm_model.specs.declared.entry.Entry.TheVariants.{Create, Fetch, Store
 use Rattle.hm_model.specs.Store.{PlainStore, IsThere}
 use Rattle.hm_model.specs.Effect.{Stands}
 use Rattle.hm_model.specs.History.{store_of}
-use Rattle.hm_core.specs.declared.part.Known.{Known}
-use Rattle.hm_core.specs.declared.part.Part.{Part}
-use Rattle.hm_core.specs.declared.part.View.{View}
-use Rattle.hm_core.specs.declared.part.Site.{Site}
-use Rattle.hm_core.specs.declared.moving.Act.{Act}
-use Rattle.hm_core.specs.declared.moving.Act.TheVariants.{LoadStamp, LoadReference, LoadNumber, LoadLink, StoreOwn, Publish, LinkStore}
-use Rattle.hm_core.specs.declared.moving.Move.{Move}
-use Rattle.hm_core.specs.Moving.{AreKnown, IsKnownField, IsGiven, IsKnownName, Reads, Turns, IsFirst, MayTake, MayMake, Enabled, IsLawfulMove}
-use Rattle.hm_core.specs.Good.{Core, Good, Carries}
-use Rattle.hm_core.proofs.Histories.{come_now}
-use Rattle.hm_core.proofs.Heaps.{known_there}
+use Rattle.hm_moves.specs.declared.part.Known.{Known}
+use Rattle.hm_moves.specs.declared.part.Part.{Part}
+use Rattle.hm_moves.specs.declared.part.View.{View}
+use Rattle.hm_moves.specs.declared.part.Site.{Site}
+use Rattle.hm_moves.specs.declared.moving.Act.{Act}
+use Rattle.hm_moves.specs.declared.moving.Act.TheVariants.{LoadStamp, LoadReference, LoadNumber, LoadLink, StoreOwn, Publish, LinkStore}
+use Rattle.hm_moves.specs.declared.moving.Move.{Move}
+use Rattle.hm_moves.specs.Moving.{AreKnown, IsKnownField, IsGiven, IsKnownName, Reads, Turns, IsFirst, MayTake, MayMake, Enabled, IsLawfulMove}
+use Rattle.hm_moves.specs.Good.{Core, Good, Carries}
+use Rattle.hm_moves.proofs.Histories.{come_now}
+use Rattle.hm_moves.proofs.Heaps.{known_there}
 
 -- what is known by one reading is known by a wider one
 module _ (known wider : Name → Type 0) (f : (n : Name) → known n → wider n) where

@@ -4,15 +4,15 @@ use Rattle.hm_model.specs.declared.entry.Entry.{Entry}
 use Rattle.hm_model.specs.Store.{PlainStore}
 use Rattle.hm_model.specs.History.{store_of, opening_of, starting_count, IsSizedStart}
 use Rattle.hm_model.specs.Lawful.{UsageLaws}
-use Rattle.hm_core.specs.declared.part.Known.{Known}
-use Rattle.hm_core.specs.declared.part.Site.{Site}
-use Rattle.hm_core.specs.Chain.{Index, Heap, IsLinked, link_of}
-use Rattle.hm_core.specs.Good.{Core, Good}
-use Rattle.hm_core.specs.Fresh.{IsFreshCore}
-use Rattle.hm_core.specs.Safe.{IsForward, IsSafe, Leads, here, moved, cut, met}
-use Rattle.hm_core.proofs.Steps.{good_step}
-use Rattle.hm_core.proofs.Seats.{good_split, good_join}
-use Rattle.hm_core.proofs.Fresh.{good_fresh}
+use Rattle.hm_moves.specs.declared.part.Known.{Known}
+use Rattle.hm_moves.specs.declared.part.Site.{Site}
+use Rattle.hm_moves.specs.Chain.{Index, Heap, IsLinked, link_of}
+use Rattle.hm_moves.specs.Good.{Core, Good}
+use Rattle.hm_moves.specs.Fresh.{IsFreshCore}
+use Rattle.hm_moves.specs.Safe.{IsForward, IsSafe, Leads, here, moved, cut, met}
+use Rattle.hm_moves.proofs.Steps.{good_step}
+use Rattle.hm_moves.proofs.Seats.{good_split, good_join}
+use Rattle.hm_moves.proofs.Fresh.{good_fresh}
 
 forward : (index : Index) (store : PlainStore) (k : Known) (w : ℕ) → IsLinked index store k w → IsForward
     index k w

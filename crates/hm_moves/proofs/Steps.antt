@@ -8,20 +8,20 @@ use Rattle.hm_model.specs.Store.{PlainStore, IsThere}
 use Rattle.hm_model.specs.Effect.{Stands}
 use Rattle.hm_model.specs.History.{store_of}
 use Rattle.hm_model.specs.Lawful.{UsageLaws}
-use Rattle.hm_core.specs.declared.part.Known.{Known}
-use Rattle.hm_core.specs.declared.part.Site.{Site}
-use Rattle.hm_core.specs.declared.part.Part.{Part}
-use Rattle.hm_core.specs.declared.part.View.{View}
-use Rattle.hm_core.specs.declared.moving.Move.{Move}
-use Rattle.hm_core.specs.Chain.{Heap, IsFit, IsPublished, row_count}
-use Rattle.hm_core.specs.Moving.{word_of, heap_after, entry_of, finds, listed, publishes, part_after, view_after, IsLawfulMove}
-use Rattle.hm_core.specs.Good.{Begins, HeapIsGood, PartIsGood, Core, Good, Carries, Told, applied}
-use Rattle.hm_core.proofs.Histories.{IsBy, begins_more, others_only}
-use Rattle.hm_core.proofs.Placed.{total_small, published_once}
-use Rattle.hm_core.proofs.Heaps.{heap_step}
-use Rattle.hm_core.proofs.Finding.{entry_by, found_now, new_now}
-use Rattle.hm_core.proofs.Parts.{own_part, other_part, calls_known, calls_along, begins_after, seen_lawful}
-use Rattle.hm_core.proofs.Places.{at_set}
+use Rattle.hm_moves.specs.declared.part.Known.{Known}
+use Rattle.hm_moves.specs.declared.part.Site.{Site}
+use Rattle.hm_moves.specs.declared.part.Part.{Part}
+use Rattle.hm_moves.specs.declared.part.View.{View}
+use Rattle.hm_moves.specs.declared.moving.Move.{Move}
+use Rattle.hm_moves.specs.Chain.{Heap, IsFit, IsPublished, row_count}
+use Rattle.hm_moves.specs.Moving.{word_of, heap_after, entry_of, finds, listed, publishes, part_after, view_after, IsLawfulMove}
+use Rattle.hm_moves.specs.Good.{Begins, HeapIsGood, PartIsGood, Core, Good, Carries, Told, applied}
+use Rattle.hm_moves.proofs.Histories.{IsBy, begins_more, others_only}
+use Rattle.hm_moves.proofs.Placed.{total_small, published_once}
+use Rattle.hm_moves.proofs.Heaps.{heap_step}
+use Rattle.hm_moves.proofs.Finding.{entry_by, found_now, new_now}
+use Rattle.hm_moves.proofs.Parts.{own_part, other_part, calls_known, calls_along, begins_after, seen_lawful}
+use Rattle.hm_moves.proofs.Places.{at_set}
 
 module _ {U : Type 0} (lawful : U → PlainStore → Type 0) (allowed : U → PlainStore → Entry → Type 0)
     (laws : (u : U) → UsageLaws (lawful u) (allowed u)) (c : Core U) (id place : ℕ) (v : View U) (p : Part U)

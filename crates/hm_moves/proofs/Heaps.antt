@@ -17,17 +17,17 @@ use Rattle.hm_model.proofs.StoreFacts.{contents_of-push, contents_of-push_new}
 use Rattle.hm_model.proofs.EffectFacts.{there_after}
 use Rattle.hm_model.proofs.HistoryFacts.{store_after-append, well_made_legal, made_count-legal}
 use Rattle.hm_model.proofs.WellMade.{fresh_name}
-use Rattle.hm_core.specs.declared.part.Known.{Known}
-use Rattle.hm_core.specs.declared.part.Part.{Part}
-use Rattle.hm_core.specs.declared.moving.Act.{Act}
-use Rattle.hm_core.specs.declared.moving.Act.TheVariants.{LoadStamp, LoadReference, LoadNumber, LoadLink, StoreOwn, Publish, LinkStore}
-use Rattle.hm_core.specs.Chain.{Heap, IsPublished, with_one, HasContents, Refers, IsLinked, AreChained, row_count, reference_at, link_of}
-use Rattle.hm_core.specs.Moving.{next_version, word_of, heap_after, row_of_part, used_with, Spells, IsWritten, IsBuilt, MayLookInto, IsKnownName, HasRoom, IsFirst, IsLater, Turns, MayTake}
-use Rattle.hm_core.specs.Good.{HeapIsGood, PartIsGood}
-use Rattle.hm_core.proofs.Histories.{below_more, lawful_with}
-use Rattle.hm_core.proofs.Placed.{place_small, placed_more, elsewhere, written_here, contents_same, true_more, not_the_one}
-use Rattle.hm_core.proofs.Chains.{chained_beside, chained_created, chained_hung}
-use Rattle.hm_core.proofs.Entries.{all_there, reads_stand, turns_stand}
+use Rattle.hm_moves.specs.declared.part.Known.{Known}
+use Rattle.hm_moves.specs.declared.part.Part.{Part}
+use Rattle.hm_moves.specs.declared.moving.Act.{Act}
+use Rattle.hm_moves.specs.declared.moving.Act.TheVariants.{LoadStamp, LoadReference, LoadNumber, LoadLink, StoreOwn, Publish, LinkStore}
+use Rattle.hm_moves.specs.Chain.{Heap, IsPublished, with_one, HasContents, Refers, IsLinked, AreChained, row_count, reference_at, link_of}
+use Rattle.hm_moves.specs.Moving.{next_version, word_of, heap_after, row_of_part, used_with, Spells, IsWritten, IsBuilt, MayLookInto, IsKnownName, HasRoom, IsFirst, IsLater, Turns, MayTake}
+use Rattle.hm_moves.specs.Good.{HeapIsGood, PartIsGood}
+use Rattle.hm_moves.proofs.Histories.{below_more, lawful_with}
+use Rattle.hm_moves.proofs.Placed.{place_small, placed_more, elsewhere, written_here, contents_same, true_more, not_the_one}
+use Rattle.hm_moves.proofs.Chains.{chained_beside, chained_created, chained_hung}
+use Rattle.hm_moves.proofs.Entries.{all_there, reads_stand, turns_stand}
 
 -- a word that becomes what it was
 pub same_word : (words : List ℕ) (w x : ℕ) → x ≡ slice_index words w → set words w x ≡ words

@@ -7,9 +7,9 @@ use Rattle.hm_shape.specs.Words.{naming_word}
 use Rattle.hm_model.specs.declared.object.Name.{Name}
 use Rattle.hm_model.specs.Store.{PlainStore, contents_of, IsThere}
 use Rattle.hm_model.proofs.EffectFacts.{there_contents}
-use Rattle.hm_core.specs.declared.part.Known.{Known}
-use Rattle.hm_core.specs.Chain.{Index, IsPublished, with_one, link_of, IsLinked, AreChained}
-use Rattle.hm_core.proofs.Placed.{published_here, published_either, published_once, follows_more}
+use Rattle.hm_moves.specs.declared.part.Known.{Known}
+use Rattle.hm_moves.specs.Chain.{Index, IsPublished, with_one, link_of, IsLinked, AreChained}
+use Rattle.hm_moves.proofs.Placed.{published_here, published_either, published_once, follows_more}
 
 -- the links of published versions are the same
 abbrev pub SameLinks : Shape → List ℕ → List ℕ → Index → Type 0

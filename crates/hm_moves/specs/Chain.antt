@@ -8,7 +8,7 @@ use Rattle.hm_model.specs.declared.object.Name.{Name}
 use Rattle.hm_model.specs.declared.object.Contents.{Contents}
 use Rattle.hm_model.specs.declared.entry.Entry.{Entry}
 use Rattle.hm_model.specs.Store.{IsSized, PlainStore, contents_of, IsThere}
-use Rattle.hm_core.specs.declared.part.Known.{Known}
+use Rattle.hm_moves.specs.declared.part.Known.{Known}
 
 -- the heap knows of the version of each number, where that is published
 abbrev pub Index : Type 0

@@ -8,16 +8,16 @@ use Rattle.hm_model.specs.declared.entry.Entry.TheVariants.{Create, Fetch, Store
 use Rattle.hm_model.specs.Store.{PlainStore}
 use Rattle.hm_model.specs.Effect.{caller_of}
 use Rattle.hm_model.specs.History.{store_of}
-use Rattle.hm_core.specs.declared.part.Known.{Known}
-use Rattle.hm_core.specs.declared.part.Part.{Part}
-use Rattle.hm_core.specs.declared.moving.Act.{Act}
-use Rattle.hm_core.specs.declared.moving.Act.TheVariants.{LoadStamp, LoadReference, LoadNumber, LoadLink, StoreOwn, Publish, LinkStore}
-use Rattle.hm_core.specs.Chain.{Index, Heap, IsPublished, with_one, lookup, Refers, IsLinked, reference_at}
-use Rattle.hm_core.specs.Moving.{next_version, word_of, entry_of, publishes, finds, index_with, HasRoom, MayLookInto, Reads, Turns, MayTake}
-use Rattle.hm_core.specs.Good.{HeapIsGood, PartIsGood, IsReference, IsLink, Found}
-use Rattle.hm_core.proofs.Histories.{IsBy}
-use Rattle.hm_core.proofs.Placed.{published_here, published_more}
-use Rattle.hm_core.proofs.Heaps.{look_published, fresh_none}
+use Rattle.hm_moves.specs.declared.part.Known.{Known}
+use Rattle.hm_moves.specs.declared.part.Part.{Part}
+use Rattle.hm_moves.specs.declared.moving.Act.{Act}
+use Rattle.hm_moves.specs.declared.moving.Act.TheVariants.{LoadStamp, LoadReference, LoadNumber, LoadLink, StoreOwn, Publish, LinkStore}
+use Rattle.hm_moves.specs.Chain.{Index, Heap, IsPublished, with_one, lookup, Refers, IsLinked, reference_at}
+use Rattle.hm_moves.specs.Moving.{next_version, word_of, entry_of, publishes, finds, index_with, HasRoom, MayLookInto, Reads, Turns, MayTake}
+use Rattle.hm_moves.specs.Good.{HeapIsGood, PartIsGood, IsReference, IsLink, Found}
+use Rattle.hm_moves.proofs.Histories.{IsBy}
+use Rattle.hm_moves.proofs.Placed.{published_here, published_more}
+use Rattle.hm_moves.proofs.Heaps.{look_published, fresh_none}
 
 -- a word that refers names the version that is looked up
 refers_found : (index : Index) (w : ℕ) (r : Option Name) → Refers index w r

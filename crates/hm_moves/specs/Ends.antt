@@ -3,8 +3,8 @@ use Rattle.std.specs.Prelude.{◌≡◌, ℕ, zero, suc, ◌+◌, ◌*◌, ◌�
 use Rattle.hm_shape.specs.declared.shape.Shape.{Shape}
 use Rattle.hm_shape.specs.Versions.{version_count}
 use Rattle.hm_shape.specs.Words.{naming_word}
-use Rattle.hm_core.specs.declared.part.Known.{Known}
-use Rattle.hm_core.specs.Chain.{Heap, IsPublished, link_of}
+use Rattle.hm_moves.specs.declared.part.Known.{Known}
+use Rattle.hm_moves.specs.Chain.{Heap, IsPublished, link_of}
 
 -- n links lead from one version to another, each to the published version that it names
 abbrev pub Links : Shape → Heap → ℕ → Known → Known → Type 0

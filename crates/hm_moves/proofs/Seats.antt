@@ -6,13 +6,13 @@ use Rattle.hm_model.specs.declared.entry.Entry.{Entry}
 use Rattle.hm_model.specs.Store.{PlainStore}
 use Rattle.hm_model.specs.History.{calls_of, opening_of}
 use Rattle.hm_model.proofs.HistoryFacts.{calls_of-append}
-use Rattle.hm_core.specs.declared.part.Site.{Site}
-use Rattle.hm_core.specs.declared.part.Part.{Part}
-use Rattle.hm_core.specs.declared.part.View.{View}
-use Rattle.hm_core.specs.Moving.{view}
-use Rattle.hm_core.specs.Good.{Begins, AreBelow, PartIsGood, Core, Good, Carries, split, joined, joined_view, longer, spent_view}
-use Rattle.hm_core.proofs.Histories.{below_later, none_made, nothing_more, begins_on, begins_longer, left_begins, right_begins, calls_between}
-use Rattle.hm_core.proofs.Places.{at_set, at_longer, at_later, at_below, at_end, at_either, set_here, set_else}
+use Rattle.hm_moves.specs.declared.part.Site.{Site}
+use Rattle.hm_moves.specs.declared.part.Part.{Part}
+use Rattle.hm_moves.specs.declared.part.View.{View}
+use Rattle.hm_moves.specs.Moving.{view}
+use Rattle.hm_moves.specs.Good.{Begins, AreBelow, PartIsGood, Core, Good, Carries, split, joined, joined_view, longer, spent_view}
+use Rattle.hm_moves.proofs.Histories.{below_later, none_made, nothing_more, begins_on, begins_longer, left_begins, right_begins, calls_between}
+use Rattle.hm_moves.proofs.Places.{at_set, at_longer, at_later, at_below, at_end, at_either, set_here, set_else}
 
 module _ {U : Type 0} (lawful : U → PlainStore → Type 0) (allowed : U → PlainStore → Entry → Type 0)
     (g : Site U) (c : Core U) (id : ℕ) (v : View U) (good : Good lawful allowed g c)

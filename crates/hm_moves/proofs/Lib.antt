@@ -1,0 +1,15 @@
+pub mod Histories
+pub mod Placed
+pub mod Chains
+pub mod Entries
+pub mod Held
+pub mod Heaps
+pub mod Finding
+pub mod Parts
+pub mod Places
+pub mod Steps
+pub mod Enabling
+pub mod Seats
+pub mod Fresh
+pub mod Safe
+pub mod Ends
