@@ -9,7 +9,7 @@ use Rattle.hm_model.specs.declared.entry.Entry.{Entry}
 use Rattle.hm_model.specs.declared.entry.Entry.TheVariants.{Create, Fetch, Store, StoreIf}
 use Rattle.hm_model.specs.Store.{Refs, Numbers, PlainStore, contents_of}
 use Rattle.hm_model.specs.Effect.{Stands, effect_of}
-use Rattle.hm_model.specs.History.{store_of, opening_of, IsLegal}
+use Rattle.hm_model.specs.History.{store_after, store_of, opening_of, AreOthers, IsLegal}
 
 module _ (lawful : PlainStore → Type 0) (allowed : PlainStore → Entry → Type 0) where
   -- an entry may come under a usage where it stands in a lawful store and is allowed there
@@ -28,6 +28,18 @@ module _ (lawful : PlainStore → Type 0) (allowed : PlainStore → Entry → Ty
     pub legal : IsLegal start history
     pub come : AllCome (store_of (opening_of start)) legal.rest
     pub now : lawful (store_of history)
+
+  -- others lead to a lawful store by entries that come, from what a caller has seen
+  pub record OthersLead (seen : List Entry) (q : ℕ) (s : PlainStore) : Type 0 where
+    pub between : List Entry
+    pub others : AreOthers q between
+    pub come : AllCome (store_of seen) between
+    pub here : s ≡ store_after (store_of seen) between
+    pub store : lawful s
+
+  -- a caller may make an entry where it is allowed wherever others lead and it stands
+  abbrev pub MayMake : List Entry → ℕ → Entry → Type 0
+  MayMake seen q e = (s : PlainStore) → OthersLead seen q s → Stands s e → allowed s e
 
   -- the laws of a usage
   pub record UsageLaws : Type 0 where

@@ -5,9 +5,9 @@ use Rattle.hm_model.specs.declared.object.Start.{Start}
 use Rattle.hm_model.specs.declared.entry.Entry.{Entry}
 use Rattle.hm_model.specs.declared.root.Root.{Root}
 use Rattle.hm_model.specs.Store.{Refs, PlainStore}
-use Rattle.hm_model.specs.Effect.{caller_of, Stands}
-use Rattle.hm_model.specs.History.{store_after, store_of, opening_of, common_name, calls_of, AreOthers}
-use Rattle.hm_model.specs.Lawful.{AllCome, IsLawful}
+use Rattle.hm_model.specs.Effect.{caller_of}
+use Rattle.hm_model.specs.History.{store_of, opening_of, common_name, calls_of, AreOthers}
+use Rattle.hm_model.specs.Lawful.{AllCome, IsLawful, MayMake}
 
 -- a caller, as contracts see it
 pub record Sight (U : Type 0) : Type 0 where
@@ -142,14 +142,6 @@ module _ {U : Type 0} where
       pub come : AllCome (lawful c.usage) (allowed c.usage) (present c) (between ++ e ∷ [])
       pub history : HasHistory d
 
-    -- others lead to a lawful store by entries that come, from what a caller has seen
-    pub record OthersLead (c : Sight U) (s : PlainStore) : Type 0 where
-      pub between : List Entry
-      pub others : AreOthers c.number between
-      pub come : AllCome (lawful c.usage) (allowed c.usage) (present c) between
-      pub here : s ≡ store_after (present c) between
-      pub store : lawful c.usage s
-
-    -- a caller may make an entry where it is allowed wherever others lead and it stands
+    -- a caller may make an entry by what it has seen
     abbrev pub MayEnter : Sight U → Entry → Type 0
-    MayEnter c e = (s : PlainStore) → OthersLead c s → Stands s e → allowed c.usage s e
+    MayEnter c e = MayMake (lawful c.usage) (allowed c.usage) c.seen c.number e

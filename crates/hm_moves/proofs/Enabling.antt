@@ -15,12 +15,16 @@ use Rattle.hm_moves.specs.declared.part.Part.{Part}
 use Rattle.hm_moves.specs.declared.part.View.{View}
 use Rattle.hm_moves.specs.declared.part.Site.{Site}
 use Rattle.hm_moves.specs.declared.moving.Act.{Act}
-use Rattle.hm_moves.specs.declared.moving.Act.TheVariants.{LoadStamp, LoadReference, LoadNumber, LoadLink, StoreOwn, Publish, LinkStore}
+use Rattle.hm_moves.specs.declared.moving.Act.TheVariants.{Looks, Builds}
+use Rattle.hm_moves.specs.declared.moving.Build.TheVariants.{StoreOwn, Publish, LinkStore}
 use Rattle.hm_moves.specs.declared.moving.Move.{Move}
-use Rattle.hm_moves.specs.Moving.{AreKnown, IsKnownField, IsGiven, IsKnownName, Reads, Turns, IsFirst, MayTake, MayMake, Enabled, IsLawfulMove}
+use Rattle.hm_moves.specs.Allowed.{AreKnown, IsKnownField, IsGiven, IsKnownName, Reads, Turns, IsFirst, MayTake, Enabled, IsLawfulMove, TurnsBy}
+use Rattle.hm_model.specs.Lawful.{MayMake}
 use Rattle.hm_moves.specs.Good.{Core, Good, Carries}
 use Rattle.hm_moves.proofs.Histories.{come_now}
 use Rattle.hm_moves.proofs.Heaps.{known_there}
+use Rattle.hm_moves.proofs.Held.{some_more}
+use Rattle.hm_moves.specs.Acts.{looked_at, want_of}
 
 -- what is known by one reading is known by a wider one
 module _ (known wider : Name → Type 0) (f : (n : Name) → known n → wider n) where
@@ -55,6 +59,11 @@ module _ (known wider : Name → Type 0) (f : (n : Name) → known n → wider n
     turns_wider k x (StoreIf q n stamp refs numbers Stored) h = (h.0, given_wider refs numbers h.1, h.2, h.3)
     turns_wider k x (StoreIf q n stamp refs numbers (Changed now)) h = h
 
+    turns_by_wider : (k : Known) (x : Contents) (o : Option Entry) → TurnsBy known p k x o
+        → TurnsBy wider p k x o
+    turns_by_wider k x None h = h
+    turns_by_wider k x (Some e) h = turns_wider k x e h
+
     first_wider : (k : Known) → IsFirst known p k → IsFirst wider p k
     first_wider k h = record {
       room = h.room;
@@ -68,22 +77,23 @@ module _ (known wider : Name → Type 0) (f : (n : Name) → known n → wider n
 
     module _ (make may : Entry → Type 0) (g : (e : Entry) → make e → may e) where
       pub take_wider : (act : Act) → MayTake known make p act → MayTake wider may p act
-      take_wider (LoadStamp at) h = h
-      take_wider (LoadReference at i) h = h
-      take_wider (LoadNumber at i) h = h
-      take_wider (LoadLink at None) h = (h.0, tt)
-      take_wider (LoadLink at (Some e)) h = (h.0, (reads_wider at e h.1.0, g e h.1.1))
-      take_wider (StoreOwn i word) h = h
-      take_wider (Publish k) h = (
-        first_wider k h.0,
-        g
-            (Create p.number k.name k.contents.refs k.contents.numbers) h.1,
-      )
-      take_wider (LinkStore at k e) h = record {
+      take_wider (Looks l) h = record {
+        look = h.look;
+        word = h.word;
+        reads = some_more (Reads known p (looked_at l)) (Reads wider p (looked_at l))
+            (reads_wider (looked_at l)) (want_of l) h.reads;
+        may = some_more make may g (want_of l) h.may;
+      }
+      take_wider (Builds (StoreOwn i word)) h = h
+      take_wider (Builds (Publish k)) h = record {
+        first = first_wider k h.first;
+        may = g (Create p.number k.name k.contents.refs k.contents.numbers) h.may;
+      }
+      take_wider (Builds (LinkStore at k o)) h = record {
         look = h.look;
         later = h.later;
-        turns = turns_wider at k.contents e h.turns;
-        may = g e h.may;
+        turns = turns_by_wider at k.contents o h.turns;
+        may = some_more make may g o h.may;
       }
 
 module _ {U : Type 0} (lawful : U → PlainStore → Type 0) (allowed : U → PlainStore → Entry → Type 0) where
@@ -96,7 +106,7 @@ module _ {U : Type 0} (lawful : U → PlainStore → Type 0) (allowed : U → Pl
       let make : Entry → Type 0 = MayMake (lawful p.site.usage) (allowed p.site.usage) v.seen p.number in
       let now : Entry → Type 0 = λ e. Stands store e → allowed p.site.usage store e in
       let g : (e : Entry) → make e → now e = λ e made stands.
-      (come_now (lawful p.site.usage) (allowed p.site.usage) p.site.start p.number p.mine c.heap.history
+      (come_now (lawful p.site.usage) (allowed p.site.usage) p.site.start p.number p.calls.mine c.heap.history
       v.seen e
       (good.seen id v at.seat) mine.calls good.heap.history made stands).entry in
       record {

@@ -4,12 +4,13 @@ use Rattle.hm_shape.specs.declared.shape.Shape.{Shape}
 use Rattle.hm_shape.specs.Versions.{version_count}
 use Rattle.hm_shape.specs.Words.{naming_word}
 use Rattle.hm_moves.specs.declared.part.Known.{Known}
-use Rattle.hm_moves.specs.Chain.{Heap, IsPublished, link_of, row_count, total}
+use Rattle.hm_moves.specs.Places.{Heap, row_count, total, rank_limit}
+use Rattle.hm_moves.specs.Chain.{IsPublished, link_of}
 use Rattle.hm_moves.specs.Safe.{IsForward, KeepsChains, KeepsRanks}
 use Rattle.hm_moves.specs.Ends.{ChainsEnd, EndsAfter, Links}
-use Rattle.hm_moves.proofs.Placed.{total_small}
+use Rattle.hm_moves.proofs.Placed.{made_small}
 
-module _ (s : Shape) (h : Heap) (chains : KeepsChains s h) (ranks : KeepsRanks s h) where
+module _ (s : Shape) (h : Heap) (chains : KeepsChains s h) (done : ℕ) (ranks : KeepsRanks s h done) where
   -- the published version that a link names has a greater rank
   rises : (k next : Known) → IsPublished h.index k → IsPublished h.index next
       → link_of s h.words k ≡ naming_word (Some next.version) → k.rank < next.rank
@@ -36,18 +37,18 @@ module _ (s : Shape) (h : Heap) (chains : KeepsChains s h) (ranks : KeepsRanks s
       let step = rises k l.0 is l.1 l.2 in
       (rest.0, let far = rest.1 in omega arith)
 
-  all_places : total h.used (row_count s) ≤ version_count s
-  all_places = total_small h.used (row_count s) s.versions ranks.rows
+  all_places : total h.places.made (row_count s) ≤ rank_limit s done
+  all_places = made_small s h.places done ranks.rows ranks.made ranks.freed
 
   -- a chain ends where no rank is left
-  ends_from : (left : ℕ) (k : Known) → IsPublished h.index k → version_count s < k.rank + left
+  ends_from : (left : ℕ) (k : Known) → IsPublished h.index k → rank_limit s done < k.rank + left
       → (n : ℕ) × EndsAfter s h k n
   ends_from zero k is low =
       absurd (let a = ranks.ranks k is in let b = all_places in omega arith)
   ends_from (suc left) k is low =
       go (ends_from left) (link_of s h.words k) refl (chains.links k is)
     where
-      go : ((m : Known) → IsPublished h.index m → version_count s < m.rank + left
+      go : ((m : Known) → IsPublished h.index m → rank_limit s done < m.rank + left
           → (n : ℕ) × EndsAfter s h m n)
           → (w : ℕ) → link_of s h.words k ≡ w → IsForward h.index k w → (n : ℕ) × EndsAfter s h k n
       go rest zero e f = (0, record { last = k; links = refl; none = e })
@@ -64,9 +65,9 @@ module _ (s : Shape) (h : Heap) (chains : KeepsChains s h) (ranks : KeepsRanks s
             },
           )
 
-  pub chains_end : ChainsEnd s h 0
+  pub chains_end : ChainsEnd s h done
   chains_end = record {
-    ends = λ k is. ends_from (version_count s + 1) k is (omega arith);
+    ends = λ k is. ends_from (rank_limit s done + 1) k is (omega arith);
     few = λ k n is end.
         let up = climbs n k end.last is end.links in
         let low = ranks.ranks end.last up.0 in

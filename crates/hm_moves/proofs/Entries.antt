@@ -14,7 +14,7 @@ use Rattle.hm_model.proofs.StoreFacts.{contents_of-changed, contents_of-changed_
 use Rattle.hm_model.proofs.EffectFacts.{there_contents, field_rises}
 use Rattle.hm_moves.specs.declared.part.Known.{Known}
 use Rattle.hm_moves.specs.declared.part.Part.{Part}
-use Rattle.hm_moves.specs.Moving.{AreKnown, IsKnownField, Reads, Turns}
+use Rattle.hm_moves.specs.Allowed.{AreKnown, IsKnownField, Reads, Turns}
 
 -- a changed object has what the change makes of it
 changed_here : (f : Contents → Contents) (store : PlainStore) (n m : Name) (x y : Contents) → n ≡ m

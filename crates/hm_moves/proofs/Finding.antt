@@ -11,13 +11,21 @@ use Rattle.hm_model.specs.History.{store_of}
 use Rattle.hm_moves.specs.declared.part.Known.{Known}
 use Rattle.hm_moves.specs.declared.part.Part.{Part}
 use Rattle.hm_moves.specs.declared.moving.Act.{Act}
-use Rattle.hm_moves.specs.declared.moving.Act.TheVariants.{LoadStamp, LoadReference, LoadNumber, LoadLink, StoreOwn, Publish, LinkStore}
-use Rattle.hm_moves.specs.Chain.{Index, Heap, IsPublished, with_one, lookup, Refers, IsLinked, reference_at}
-use Rattle.hm_moves.specs.Moving.{next_version, word_of, entry_of, publishes, finds, index_with, HasRoom, MayLookInto, Reads, Turns, MayTake}
-use Rattle.hm_moves.specs.Good.{HeapIsGood, PartIsGood, IsReference, IsLink, Found}
+use Rattle.hm_moves.specs.declared.moving.Act.TheVariants.{Looks, Builds}
+use Rattle.hm_moves.specs.declared.moving.Look.{Look}
+use Rattle.hm_moves.specs.declared.moving.Look.TheVariants.{LoadStamp, LoadReference, LoadNumber, LoadLink}
+use Rattle.hm_moves.specs.declared.moving.Build.TheVariants.{StoreOwn, Publish, LinkStore}
+use Rattle.hm_moves.specs.Chain.{Index, IsPublished, with_one, lookup, Refers, IsLinked, reference_at}
+use Rattle.hm_moves.specs.Places.{Heap}
+use Rattle.hm_moves.specs.Acts.{next_version, word_of, entry_of, publishes, finds, want_of, looked_at}
+use Rattle.hm_moves.specs.After.{index_with}
+use Rattle.hm_moves.specs.Allowed.{HasRoom, MayLookInto, Reads, Turns, MayTake, TurnsBy}
+use Rattle.hm_moves.specs.Good.{HeapIsGood, PartIsGood}
+use Rattle.hm_moves.specs.Told.{IsReference, IsLink, Found}
 use Rattle.hm_moves.proofs.Histories.{IsBy}
 use Rattle.hm_moves.proofs.Placed.{published_here, published_more}
 use Rattle.hm_moves.proofs.Heaps.{look_published, fresh_none}
+use Rattle.hm_moves.proofs.Held.{zero_some, some_more}
 
 -- a word that refers names the version that is looked up
 refers_found : (index : Index) (w : ℕ) (r : Option Name) → Refers index w r
@@ -58,9 +66,10 @@ module _ {U : Type 0} (known : Name → Type 0) (p : Part U) where
   turns_by k fresh (StoreIf q n stamp refs numbers Stored) h = h.0.caller
   turns_by k fresh (StoreIf q n stamp refs numbers (Changed now)) h = absurd h
 
--- a version is fresh where it is not published and there is room
-abbrev pub IsFresh : {U : Type 0} → Heap → Part U → Known → Type 0
-IsFresh h p k = (h.index k.version.0 ≡ None) × HasRoom p
+  turns_by_some : (k fresh : Known) (o : Option Entry) → TurnsBy known p k fresh.contents o
+      → IfSome o (λ e. caller_of e ≡ p.number)
+  turns_by_some k fresh None h = tt
+  turns_by_some k fresh (Some e) h = turns_by k fresh e h
 
 module _ (index : Index) where
   -- published versions stay so
@@ -89,40 +98,28 @@ module _ {U : Type 0} (lawful : U → PlainStore → Type 0) (allowed : U → Pl
 
   -- the entry is the caller's
   pub entry_by : (act : Act) → May act → (x : ℕ) → IsBy p.number (entry_of p.number act x)
-  entry_by (LoadStamp at) may x = tt
-  entry_by (LoadReference at i) may x = tt
-  entry_by (LoadNumber at i) may x = tt
-  entry_by (LoadLink at None) may zero = tt
-  entry_by (LoadLink at (Some e)) may zero = reads_by known p at e may.1.0
-  entry_by (LoadLink at want) may (suc n) = tt
-  entry_by (StoreOwn i word) may x = tt
-  entry_by (Publish k) may x = refl
-  entry_by (LinkStore at k e) may zero = turns_by known p at k e may.turns
-  entry_by (LinkStore at k e) may (suc n) = tt
+  entry_by (Looks l) may x = zero_some (λ e. caller_of e ≡ p.number) (want_of l) x
+      (some_more (Reads known p (looked_at l)) (λ e. caller_of e ≡ p.number) (reads_by known p (looked_at l))
+      (want_of l) may.reads)
+  entry_by (Builds (StoreOwn i word)) may x = tt
+  entry_by (Builds (Publish k)) may x = refl
+  entry_by (Builds (LinkStore at k o)) may x = zero_some (λ e. caller_of e ≡ p.number) o x
+      (turns_by_some known p at k o may.turns)
 
-  -- what is published was not so, and there was room for it
-  pub fresh_now : (act : Act) → May act → (x : ℕ) → IfSome (publishes act x) (λ k. h.index k.version.0 ≡ None)
-  fresh_now (LoadStamp at) may x = tt
-  fresh_now (LoadReference at i) may x = tt
-  fresh_now (LoadNumber at i) may x = tt
-  fresh_now (LoadLink at want) may x = tt
-  fresh_now (StoreOwn i word) may x = tt
-  fresh_now (Publish k) may x = fresh_none lawful allowed h seen p good mine k may.0.room may.0.version
-  fresh_now (LinkStore at k e) may zero =
-      fresh_none lawful allowed h seen p good mine k may.later.room may.later.version
-  fresh_now (LinkStore at k e) may (suc n) = tt
-
-  -- it is the caller's next version, for which there was room
+  -- what is published is the caller's next version, for which there was room
   pub next_now : (act : Act) → May act → (x : ℕ)
       → IfSome (publishes act x) (λ k. (k.version ≡ next_version p) × HasRoom p)
-  next_now (LoadStamp at) may x = tt
-  next_now (LoadReference at i) may x = tt
-  next_now (LoadNumber at i) may x = tt
-  next_now (LoadLink at want) may x = tt
-  next_now (StoreOwn i word) may x = tt
-  next_now (Publish k) may x = (may.0.version, may.0.room)
-  next_now (LinkStore at k e) may zero = (may.later.version, may.later.room)
-  next_now (LinkStore at k e) may (suc n) = tt
+  next_now (Looks l) may x = tt
+  next_now (Builds (StoreOwn i word)) may x = tt
+  next_now (Builds (Publish k)) may x = (may.first.version, may.first.room)
+  next_now (Builds (LinkStore at k o)) may zero = (may.later.version, may.later.room)
+  next_now (Builds (LinkStore at k o)) may (suc n) = tt
+
+  -- and was not published before
+  pub fresh_now : (act : Act) → May act → (x : ℕ) → IfSome (publishes act x) (λ k. h.index k.version.0 ≡ None)
+  fresh_now act may x = some_more (λ k. (k.version ≡ next_version p) × HasRoom p)
+      (λ k. h.index k.version.0 ≡ None)
+      (λ k t. fresh_none lawful allowed h seen p good mine k t.1 t.0) (publishes act x) (next_now act may x)
 
   look : (at : Known) → MayLookInto p at → IsPublished h.index at
   look at l = look_published h seen p mine at l
@@ -136,12 +133,13 @@ module _ {U : Type 0} (lawful : U → PlainStore → Type 0) (allowed : U → Pl
   -- what is found is what is known of it
   pub found_now : (act : Act) → May act → (x : ℕ) → x ≡ slice_index h.words (word_of p act)
       → Found act x (finds h.index act x) × IfSome (finds h.index act x) (IsPublished h.index)
-  found_now (LoadStamp at) may x is = ((is ∙ (good.contents at (look at may)).stamp, refl), tt)
-  found_now (LoadReference at i) may x is = refers_found h.index x (reference_at at.contents i)
+  found_now (Looks (LoadStamp at)) may x is = ((is ∙ (good.contents at (look at may.look)).stamp, refl), tt)
+  found_now (Looks (LoadReference at i)) may x is = refers_found h.index x (reference_at at.contents i)
       (subst (λ (w : ℕ). Refers h.index w (reference_at at.contents i)) (sym is)
-      ((good.contents at (look at may.0)).refs i may.1))
-  found_now (LoadNumber at i) may x is = ((is ∙ (good.contents at (look at may.0)).numbers i may.1, refl), tt)
-  found_now (LoadLink at want) may x is = link_now at may.0 x is
-  found_now (StoreOwn i word) may x is = (refl, tt)
-  found_now (Publish k) may x is = (refl, tt)
-  found_now (LinkStore at k e) may x is = link_now at may.look x is
+      ((good.contents at (look at may.look)).refs i may.word))
+  found_now (Looks (LoadNumber at i)) may x is =
+      ((is ∙ (good.contents at (look at may.look)).numbers i may.word, refl), tt)
+  found_now (Looks (LoadLink at want)) may x is = link_now at may.look x is
+  found_now (Builds (StoreOwn i word)) may x is = (refl, tt)
+  found_now (Builds (Publish k)) may x is = (refl, tt)
+  found_now (Builds (LinkStore at k o)) may x is = link_now at may.look x is

@@ -1,6 +1,7 @@
 -- A fresh machine is good.
-use Rattle.std.proofs.Common.{◌≡◌, ◌≢◌, ◌<◌, ◌≤◌, ◌+◌, ◌*◌, ◌==◌, ℕ, zero, suc, Bool, true, false, cond, is_some, eqb, eq-eqb, ne_eqb, List, [], ◌∷◌, ◌++◌, map, length, replicate, All, Option, Some, None, IfSome, Contains, if◌then◌else◌, refl, sym, ap, ◌∙◌, subst, arith, ⊎_elim, append-nil, append_assoc, suc-mul}
+use Rattle.std.proofs.Common.{◌≡◌, ◌≢◌, ◌<◌, ◌≤◌, ◌+◌, ◌*◌, ◌==◌, ℕ, zero, suc, Bool, true, false, cond, is_some, eqb, eq-eqb, ne_eqb, List, [], ◌∷◌, ◌++◌, map, length, replicate, All, Option, Some, None, IfSome, Contains, if◌then◌else◌, refl, sym, ap, ◌∙◌, subst, arith, ⊎_elim, append-nil, append_assoc, suc-mul, IsSome}
 use Rattle.std.specs.Prelude.{slice_get}
+use Rattle.std.specs.List.{list_any}
 use Rattle.std.proofs.lemmas.Nat.{mul-lt}
 use Rattle.std.proofs.lemmas.Option.{get_or_from_slice_get, slice_get_past, slice_get_within, slice_get-get_or}
 use Rattle.std.proofs.lemmas.List.Sums.{sum_by-cons}
@@ -25,9 +26,10 @@ use Rattle.hm_model.proofs.HistoryFacts.{store_after-append}
 use Rattle.hm_model.proofs.Openings.{lawful_opening}
 use Rattle.hm_moves.specs.declared.part.Known.{Known}
 use Rattle.hm_moves.specs.declared.part.Site.{Site}
-use Rattle.hm_moves.specs.Chain.{Index, Heap, IsPublished, AreTrue, AreChained, ArePlaced, IsLinked, link_of, row_count, total}
-use Rattle.hm_moves.specs.Good.{Begins, AreBelow, HeapIsGood, PartIsGood, Core, Good}
-use Rattle.hm_moves.specs.Fresh.{starting_known, side_known, common_known, all_known, fresh_index, fresh_used, fresh_part, IsFreshCore}
+use Rattle.hm_moves.specs.Chain.{Index, IsPublished, AreTrue, AreChained, IsLinked, link_of}
+use Rattle.hm_moves.specs.Places.{Heap, ArePlaced, row_count, total, AreRanked, HasHead, IsOwn, Places}
+use Rattle.hm_moves.specs.Good.{Begins, AreBelow, HeapIsGood, PartIsGood, Core, Good, AreApart}
+use Rattle.hm_moves.specs.Fresh.{starting_known, side_known, common_known, all_known, fresh_index, fresh_used, fresh_part, IsFreshCore, fresh_places}
 use Rattle.hm_moves.proofs.Histories.{below-append, begins_self}
 use Rattle.hm_moves.proofs.Placed.{published_once, place_small, same_row}
 use Rattle.hm_moves.proofs.Held.{none_written, contains_first}
@@ -129,6 +131,11 @@ stored_push : (xs : List Known) (m : Known) → stored (xs ++ m ∷ []) ≡ stor
 stored_push [] m = refl
 stored_push (x ∷ xs) m = ap (λ (l : PlainStore). (x.name, x.contents) ∷ l) (stored_push xs m)
 
+slice_get_some : (xs : List Known) (i : ℕ) → i < length xs → IsSome (slice_get xs i)
+slice_get_some [] i low = absurd (omega arith)
+slice_get_some (x ∷ xs) zero low = refl
+slice_get_some (x ∷ xs) (suc i) low = slice_get_some xs i (omega arith)
+
 slice_get_contains : (xs : List Known) (i : ℕ) (m : Known) → slice_get xs i ≡ Some m → Contains xs m
 slice_get_contains xs i m h = (i, slice_get_within xs i m h, get_or_from_slice_get xs i m m h)
 
@@ -221,9 +228,11 @@ module _ (start : Start) (sized : IsSizedStart start) where
       filled = λ row. dite (ℕ_discrete row 0)
           (λ e. let one = used_first row e in omega arith)
           (λ ne. let none = used_other row ne in omega arith);
-      ranks = λ k there.
-          let is : k.rank ≡ 0 = ap (λ (z : Known). z.rank) (known_at k there).is in
-          let more = total_some (row_count s) rows in omega arith;
+      taken = λ row i below low. dite (ℕ_discrete row 0)
+          (λ e. let one = used_first row e in let long = many in
+          let at : row * s.versions ≡ 0 * s.versions = ap (λ (r : ℕ). r * s.versions) e in
+          slice_get_some (all_known start) (row * s.versions + i) (omega arith))
+          (λ ne. let none = used_other row ne in absurd (omega arith));
       sized = λ k there. let h = known_at k there in
           let stamp = h.stamp in record { stamp = omega arith; contents = h.sized };
     }
@@ -231,6 +240,15 @@ module _ (start : Start) (sized : IsSizedStart start) where
         row_more : (row : ℕ) → row ≢ 0 → s.versions ≤ row * s.versions
         row_more zero ne = absurd (ne refl)
         row_more (suc row) ne = omega (arith, suc-mul row s.versions)
+
+    ranked : AreRanked s (fresh_index start) (fresh_places start) 0
+    ranked = record {
+      ranks = λ k there.
+          let is : k.rank ≡ 0 = ap (λ (z : Known). z.rank) (known_at k there).is in
+          let more = total_some (row_count s) rows in omega arith;
+      made = λ row. omega arith;
+      freed = λ row. omega arith;
+    }
 
     -- each is the last of its object, with the present contents
     chained : (words : List ℕ) → ((k : Known) → IsPublished (fresh_index start) k → link_of s words k ≡ 0)
@@ -266,20 +284,23 @@ module _ {U : Type 0} (lawful : U → PlainStore → Type 0) (allowed : U → Pl
     (g : Site U)
     (sized : IsSizedStart g.start) (room : starting_count g.start ≤ g.shape.versions) where
   module _ (words : List ℕ) (wide : length words ≡ word_count g.shape)
+      (head : HasHead g.shape (fresh_places g.start).to words)
       (contents : AreTrue g.shape words (fresh_index g.start))
       (links : (k : Known) → IsPublished (fresh_index g.start) k → link_of g.shape words k ≡ 0) where
     abbrev heap : Heap
     heap = record {
       words = words;
       index = fresh_index g.start;
-      used = fresh_used g.start;
+      places = fresh_places g.start;
       history = opening_of g.start;
     }
 
     heap_good : lawful g.usage (store_of (opening_of g.start)) → HeapIsGood lawful allowed g heap
     heap_good now = record {
       wide = wide;
+      head = head;
       placed = placed g.start sized g.shape room;
+      ranked = ranked g.start sized g.shape room;
       contents = contents;
       chained = chained g.start sized g.shape room words links;
       history = lawful_opening (lawful g.usage) (allowed g.usage) g.start sized now;
@@ -296,14 +317,57 @@ module _ {U : Type 0} (lawful : U → PlainStore → Type 0) (allowed : U → Pl
         (λ z. let more = mul-lt 0 0 q g.shape.regions (omega arith) (omega (arith, g.shape.regions_fit)) in
         omega arith))))
 
-    published_good : (q : ℕ) (k : Known) → Contains (if q == 0 then all_known g.start else []) k
-        → IsPublished (fresh_index g.start) k
-    published_good q k there = go (eqb q 0) there
+    -- caller 0 has published all
+    abbrev own_list : ℕ → List Known
+    own_list q = if q == 0 then all_known g.start else []
+
+    first_place : (k : Known) → IsPublished (fresh_index g.start) k → IsAt g.shape k.version 0 0 k.version.0
+    first_place k there =
+        let low = slice_get_within (all_known g.start) k.version.0 k there in
+        let long = many g.start sized in
+        record {
+          number = λ i. record { 0 = at i };
+          owner_fits = omega (arith, g.shape.callers_fit);
+          region_fits = omega (arith, g.shape.regions_fit);
+          place_fits = omega arith;
+        }
       where
-        go : (t : Bool) → Contains (if t then all_known g.start else []) k → IsPublished (fresh_index g.start)
-            k
-        go true c = listed_published g.start sized k c
-        go false c = let low = c.1 in absurd (omega arith)
+        at : k.version.0 ≡ (0 * g.shape.regions + 0) * g.shape.versions + k.version.0
+        at = omega arith
+
+    own_listed : (q : ℕ) (k : Known) → Contains (own_list q) k → IsOwn g.shape q (fresh_index g.start) k
+    own_listed q k there = dite (ℕ_discrete q 0)
+        (λ e. let c : Contains (all_known g.start) k = rw (eq-eqb q 0 e) at there in
+        let is = listed_published g.start sized k c in
+        record {
+          published = is;
+          region = 0;
+          place = k.version.0;
+          at = subst (λ (n : ℕ). IsAt g.shape k.version n 0 k.version.0) (sym e) (first_place k is);
+        })
+        (λ ne. let c : Contains [] k = rw (ne_eqb q 0 ne) at there in let low = c.1 in absurd (omega arith))
+
+    numbered_apart : (k : ℕ) (ms : List Known) → AreNumbered k ms → AreApart ms
+    numbered_apart k [] h = tt
+    numbered_apart k (m ∷ ms) h = (
+      none_of m.version.0 (k + 1) ms h.1
+          (let is : m.version.0 ≡ k = ap (λ (z : Known). z.version.0) h.0.is in omega arith),
+      numbered_apart (k + 1) ms h.1,
+    )
+      where
+        none_of : (n j : ℕ) (l : List Known) → AreNumbered j l → n < j
+            → list_any (λ (z : Known). z.version.0 == n) l ≡ false
+        none_of n j [] e low = refl
+        none_of n j (x ∷ xs) e low =
+            let is : x.version.0 ≡ j = ap (λ (z : Known). z.version.0) e.0.is in
+            rw (ne_eqb x.version.0 n (λ z. omega arith)) (none_of n (j + 1) xs e.1 (omega arith))
+
+    own_apart : (q : ℕ) → AreApart (own_list q)
+    own_apart q = go (eqb q 0)
+      where
+        go : (t : Bool) → AreApart (if t then all_known g.start else [])
+        go true = numbered_apart 0 (all_known g.start) (numbered g.start sized)
+        go false = tt
 
     -- a version of another row than the first is not there
     first_row : (q region place : ℕ) (k : Known) → IsPublished (fresh_index g.start) k
@@ -323,11 +387,10 @@ module _ {U : Type 0} (lawful : U → PlainStore → Type 0) (allowed : U → Pl
         at.place_fits same in
         omega arith
 
-    own_good : (q : ℕ) (k : Known) (region place : ℕ) → IsPublished (fresh_index g.start) k
-        → IsAt g.shape k.version q region place → Contains (if q == 0 then all_known g.start else []) k
-    own_good q k region place there at = dite (ℕ_discrete q 0)
-        (λ e. rw (eq-eqb q 0 e) (slice_get_contains (all_known g.start) k.version.0 k there))
-        (λ ne. absurd (first_row q region place k there at ne))
+    own_all : (q : ℕ) (k : Known) → IsOwn g.shape q (fresh_index g.start) k → Contains (own_list q) k
+    own_all q k own = dite (ℕ_discrete q 0)
+        (λ e. rw (eq-eqb q 0 e) (slice_get_contains (all_known g.start) k.version.0 k own.published))
+        (λ ne. absurd (first_row q own.region own.place k own.published own.at ne))
 
     part_good : (q : ℕ) → q < g.shape.callers → PartIsGood g heap (opening_of g.start) (fresh_part g q)
     part_good q low = record {
@@ -335,6 +398,7 @@ module _ {U : Type 0} (lawful : U → PlainStore → Type 0) (allowed : U → Pl
       number = low;
       draft = record {
         region = omega (arith, g.shape.regions_fit);
+        to = refl;
         used = row_used q;
         wide = refl;
         written = λ left j w is. absurd (none_written j w is);
@@ -346,8 +410,9 @@ module _ {U : Type 0} (lawful : U → PlainStore → Type 0) (allowed : U → Pl
             subst (IsPublished (fresh_index g.start)) e (common_published g.start sized))
             (λ (c : Contains [] k). let none = c.1 in absurd (omega arith))
             (contains_first k (common_known g.start) [] there);
-        published = published_good q;
-        own = own_good q;
+        own = own_listed q;
+        all = own_all q;
+        once = own_apart q;
       };
       calls = record { all = refl; seen = refl; opened = begins_self (opening_of g.start) };
     }
@@ -363,14 +428,16 @@ module _ {U : Type 0} (lawful : U → PlainStore → Type 0) (allowed : U → Pl
       let links : (k : Known) → IsPublished (fresh_index g.start) k → link_of g.shape words k ≡ 0 =
       subst (λ (i : Index). (k : Known) → IsPublished i k → link_of g.shape words k ≡ 0) index
       fresh.heap.links in
-      let same : heap words fresh.heap.wide contents links ≡ c.heap = λ i. record {
+      let head : HasHead g.shape (fresh_places g.start).to words =
+      subst (λ (z : Places). HasHead g.shape z.to words) fresh.heap.places fresh.heap.head in
+      let same : heap words fresh.heap.wide head contents links ≡ c.heap = λ i. record {
         words = words;
         index = sym index i;
-        used = sym fresh.heap.used i;
+        places = sym fresh.heap.places i;
         history = sym fresh.heap.history i;
       } in
       record {
-        heap = subst (HeapIsGood lawful allowed g) same (heap_good words fresh.heap.wide contents links now);
+        heap = subst (HeapIsGood lawful allowed g) same (heap_good words fresh.heap.wide head contents links now);
         seen = λ j v there. subst (λ (l : List Entry). Begins l c.heap.history) (sym (fresh.seen j v there))
             (subst (Begins (opening_of g.start)) (sym fresh.heap.history) (begins_self (opening_of g.start)));
         parts = λ j k v p at.
@@ -379,6 +446,6 @@ module _ {U : Type 0} (lawful : U → PlainStore → Type 0) (allowed : U → Pl
             (subst (λ (l : List Entry). PartIsGood g c.heap l (fresh_part g p.number))
             (sym (fresh.seen j v at.seat))
             (subst (λ (h : Heap). PartIsGood g h (opening_of g.start) (fresh_part g p.number)) same
-            (part_good words fresh.heap.wide contents links p.number q.0)));
+            (part_good words fresh.heap.wide head contents links p.number q.0)));
         apart = fresh.apart;
       }

@@ -1,10 +1,10 @@
 -- A move leaves a good heap.
-use Rattle.std.proofs.Common.{◌≡◌, ◌≢◌, ◌<◌, ◌+◌, ◌*◌, ℕ, zero, suc, List, [], ◌∷◌, ◌++◌, set, slice_index, slice_set, Option, Some, None, Contains, refl, sym, ap, ◌∙◌, subst, arith, inl, inr, ⊎_elim, append-nil, length-set}
+use Rattle.std.proofs.Common.{◌≡◌, ◌≢◌, ◌<◌, ◌+◌, ◌*◌, ℕ, zero, suc, List, [], ◌∷◌, ◌++◌, set, slice_index, slice_set, Option, Some, None, Contains, refl, sym, ap, ◌∙◌, subst, arith, inl, inr, ⊎_elim, append-nil, length-set, IfSome, ◌≤◌, get_or-set_other}
 use Rattle.std.proofs.lemmas.List.{set-get_or}
 use Rattle.hm_shape.specs.declared.shape.Shape.{Shape}
 use Rattle.hm_shape.specs.declared.version.Version.{Version}
 use Rattle.hm_shape.specs.Versions.{IsVersionOf}
-use Rattle.hm_shape.specs.Words.{word_at, naming_word}
+use Rattle.hm_shape.specs.Words.{word_at, naming_word, reply_at, roles_at}
 use Rattle.hm_model.specs.declared.object.Name.{Name}
 use Rattle.hm_model.specs.declared.object.Contents.{Contents}
 use Rattle.hm_model.specs.declared.entry.Entry.{Entry}
@@ -20,14 +20,29 @@ use Rattle.hm_model.proofs.WellMade.{fresh_name}
 use Rattle.hm_moves.specs.declared.part.Known.{Known}
 use Rattle.hm_moves.specs.declared.part.Part.{Part}
 use Rattle.hm_moves.specs.declared.moving.Act.{Act}
-use Rattle.hm_moves.specs.declared.moving.Act.TheVariants.{LoadStamp, LoadReference, LoadNumber, LoadLink, StoreOwn, Publish, LinkStore}
-use Rattle.hm_moves.specs.Chain.{Heap, IsPublished, with_one, HasContents, Refers, IsLinked, AreChained, row_count, reference_at, link_of}
-use Rattle.hm_moves.specs.Moving.{next_version, word_of, heap_after, row_of_part, used_with, Spells, IsWritten, IsBuilt, MayLookInto, IsKnownName, HasRoom, IsFirst, IsLater, Turns, MayTake}
-use Rattle.hm_moves.specs.Good.{HeapIsGood, PartIsGood}
+use Rattle.hm_moves.specs.declared.moving.Act.TheVariants.{Looks, Builds}
+use Rattle.hm_moves.specs.declared.moving.Look.{Look}
+use Rattle.hm_moves.specs.declared.moving.Look.TheVariants.{LoadStamp, LoadReference, LoadNumber, LoadLink}
+use Rattle.hm_moves.specs.declared.moving.Build.TheVariants.{StoreOwn, Publish, LinkStore}
+use Rattle.hm_moves.specs.Places.{Heap, row_count, raised, HasHead, places_with, IsSizedVersion, ArePlaced, AreRanked, total}
+use Rattle.hm_moves.specs.Chain.{IsPublished, with_one, HasContents, Refers, IsLinked, AreChained, reference_at, link_of}
+use Rattle.hm_moves.specs.Acts.{next_version, word_of, want_of, looked_word, listed, where_zero, looked_at}
+use Rattle.hm_moves.specs.After.{heap_after, row_of_part}
+use Rattle.hm_moves.specs.Allowed.{Spells, IsWritten, IsBuilt, MayLookInto, IsKnownName, HasRoom, IsFirst, IsLater, Turns, MayTake, MayPublish, TurnsBy, MayLink, MayLook, Reads}
+use Rattle.hm_moves.specs.Good.{HeapIsGood, PartIsGood, AreBelow}
 use Rattle.hm_moves.proofs.Histories.{below_more, lawful_with}
-use Rattle.hm_moves.proofs.Placed.{place_small, placed_more, elsewhere, written_here, contents_same, true_more, not_the_one}
+use Rattle.hm_moves.proofs.Placed.{place_small, placed_more, elsewhere, written_here, contents_same, true_more, not_the_one, ranked_more}
 use Rattle.hm_moves.proofs.Chains.{chained_beside, chained_created, chained_hung}
 use Rattle.hm_moves.proofs.Entries.{all_there, reads_stand, turns_stand}
+use Rattle.std.proofs.lemmas.List.Elements.{Contains-append_right}
+use Rattle.hm_moves.proofs.Held.{from_some}
+
+-- a load that wants an entry is of a link
+wants_link : (l : Look) (o : Entry) → want_of l ≡ Some o → looked_word l ≡ 0
+wants_link (LoadStamp at) o e = cc
+wants_link (LoadReference at i) o e = cc
+wants_link (LoadNumber at i) o e = cc
+wants_link (LoadLink at want) o e = refl
 
 -- a word that becomes what it was
 pub same_word : (words : List ℕ) (w x : ℕ) → x ≡ slice_index words w → set words w x ≡ words
@@ -40,17 +55,18 @@ module _ {U : Type 0} (h : Heap) (seen : List Entry) (p : Part U) (mine : PartIs
   -- what a caller may look into is published
   pub look_published : (k : Known) → MayLookInto p k → IsPublished h.index k
   look_published k look = ⊎_elim (λ (c : Contains p.hands.held k). mine.hands.held k c)
-      (λ (c : Contains p.hands.published k). mine.hands.published k c) look
+      (λ (c : Contains p.hands.own k).
+      (mine.hands.own k (Contains-append_right p.hands.left p.hands.own k c)).published) look
 
   -- its region is one of the rows
   pub row_below : row_of_part p < row_count shape
   row_below = place_small p.number shape.callers shape.regions p.draft.region mine.number mine.draft.region
 
-  pub room_left : HasRoom p → h.used (row_of_part p) < shape.versions
+  pub room_left : HasRoom p → h.places.used (row_of_part p) < shape.versions
   room_left room = let a = mine.draft.used in omega arith
 
   -- and its next version lies at the first place that is not used
-  pub next_at : (next_version p).0 ≡ row_of_part p * shape.versions + h.used (row_of_part p)
+  pub next_at : (next_version p).0 ≡ row_of_part p * shape.versions + h.places.used (row_of_part p)
   next_at = ap (λ (i : ℕ). row_of_part p * shape.versions + i) mine.draft.used
 
 module _ {U : Type 0} (lawful : U → PlainStore → Type 0) (allowed : U → PlainStore → Entry → Type 0)
@@ -59,7 +75,7 @@ module _ {U : Type 0} (lawful : U → PlainStore → Type 0) (allowed : U → Pl
   -- the next version is not published
   pub next_none : HasRoom p → h.index (next_version p).0 ≡ None
   next_none room = ap h.index (next_at h seen p mine)
-      ∙ good.placed.unused (row_of_part p) (h.used (row_of_part p)) (row_below h seen p mine)
+      ∙ good.placed.unused (row_of_part p) (h.places.used (row_of_part p)) (row_below h seen p mine)
       (room_left h seen p mine room) (omega arith)
 
   pub fresh_none : (k : Known) → HasRoom p → k.version ≡ next_version p → h.index k.version.0 ≡ None
@@ -68,7 +84,7 @@ module _ {U : Type 0} (lawful : U → PlainStore → Type 0) (allowed : U → Pl
   pub next_small : HasRoom p → IsVersionOf p.site.shape (next_version p)
   next_small room =
       let a = place_small (row_of_part p) (row_count p.site.shape) p.site.shape.versions
-      (h.used (row_of_part p))
+      (h.places.used (row_of_part p))
       (row_below h seen p mine) (room_left h seen p mine room) in
       let b = next_at h seen p mine in omega arith
 
@@ -117,45 +133,38 @@ module _ {U : Type 0} (lawful : U → PlainStore → Type 0) (allowed : U → Pl
       good.history
       record { store = good.history.now; stands = stands; entry = may stands }
 
-  -- nothing is changed
-  still : (w x : ℕ) → x ≡ slice_index h.words w
-      → Kept record {
-        words = slice_set h.words w x;
-        index = h.index;
-        used = h.used;
-        history = h.history ++ [];
-      }
-  still w x e =
-      let words = same_word h.words w x e in
-      let entries = append-nil h.history in
-      subst Kept
-      (λ i. record { words = sym words i; index = h.index; used = h.used; history = sym entries i }) good
+  -- words are put in, where all else stays
+  abbrev rewritten : List ℕ → Heap
+  rewritten words = record h { words = words }
 
-  -- an entry is made that leaves the store
-  read : (w x : ℕ) (e : Entry) → x ≡ slice_index h.words w
-      → make e
-      → Stands store e × (effect_of store e ≡ store) × (caller_of e ≡ p.number)
-      → Kept record {
-        words = slice_set h.words w x;
-        index = h.index;
-        used = h.used;
-        history = h.history ++ e
-            ∷ [];
-      }
-  read w x e is may stands =
-      let words = same_word h.words w x is in
+  -- and entries are made, where all else stays
+  abbrev entered : List Entry → Heap
+  entered es = record h { history = h.history ++ es }
+
+  -- the head words are the same where a word of a version is stored
+  pub head_beside : (v : Version) (i y : ℕ)
+      → HasHead s h.places.to (slice_set h.words (word_at s v i) y)
+  head_beside v i y = record {
+    stage = get_or-set_other h.words (word_at s v i) 0 y 0 (λ e. omega arith) ∙ good.head.stage;
+    replies = λ q low. get_or-set_other h.words (word_at s v i) (reply_at q) y 0 (λ e. omega arith)
+        ∙ good.head.replies q low;
+    roles = λ q low. get_or-set_other h.words (word_at s v i) (roles_at s q) y 0 (λ e. omega arith)
+        ∙ good.head.roles q low;
+  }
+
+  -- an entry is made that leaves the store, or none
+  read : (o : Option Entry) → IfSome o make
+      → IfSome o (λ e. Stands store e × (effect_of store e ≡ store) × (caller_of e ≡ p.number))
+      → Kept (entered (listed o))
+  read None may stands = subst (λ (l : List Entry). Kept (record h { history = l }))
+      (sym (append-nil h.history)) good
+  read (Some e) may stands =
       let same : store_of (h.history ++ e ∷ []) ≡ store = store_one e ∙ stands.1 in
-      subst (λ (l : List ℕ). Kept record {
-        words = l;
-        index = h.index;
-        used = h.used;
-        history = h.history ++ e
-            ∷ [];
-      })
-      (sym words)
       record {
         wide = good.wide;
+        head = good.head;
         placed = good.placed;
+        ranked = good.ranked;
         contents = good.contents;
         chained = subst (AreChained s h.words h.index) (sym same) good.chained;
         history = history_with e may stands.0;
@@ -164,12 +173,7 @@ module _ {U : Type 0} (lawful : U → PlainStore → Type 0) (allowed : U → Pl
 
   -- a word of the next version is stored
   wrote : (i word : ℕ) → i < 16 → HasRoom p
-      → Kept record {
-        words = slice_set h.words (word_at s (next_version p) i) word;
-        index = h.index;
-        used = h.used;
-        history = h.history ++ [];
-      }
+      → Kept (rewritten (slice_set h.words (word_at s (next_version p) i) word))
   wrote i word low room =
       let words : List ℕ = slice_set h.words (word_at s (next_version p) i) word in
       let beside : (k : Known) (j : ℕ) → IsPublished h.index k → j < 16
@@ -177,12 +181,11 @@ module _ {U : Type 0} (lawful : U → PlainStore → Type 0) (allowed : U → Pl
       λ k j is small. elsewhere s h.words k.version (next_version p) j i word small low
       (inl (λ e. let both : Some k ≡ None = sym is ∙
       (ap h.index e ∙ next_none lawful allowed h seen p good mine room) in cc)) in
-      let entries = append-nil h.history in
-      subst (λ (l : List Entry). Kept record { words = words; index = h.index; used = h.used; history = l })
-      (sym entries)
       record {
         wide = length-set h.words (word_at s (next_version p) i) word ∙ good.wide;
+        head = head_beside (next_version p) i word;
         placed = good.placed;
+        ranked = good.ranked;
         contents = λ k is. contents_same s h.index h.words words k (λ j some small. beside k j is small)
             (good.contents k is);
         chained = chained_beside s h.words words h.index store (λ k is. beside k 0 is (omega arith))
@@ -211,7 +214,7 @@ module _ {U : Type 0} (lawful : U → PlainStore → Type 0) (allowed : U → Pl
       }
 
   own_place : (k : Known) → k.version ≡ next_version p
-      → k.version.0 ≡ row_of_part p * s.versions + h.used (row_of_part p)
+      → k.version.0 ≡ row_of_part p * s.versions + h.places.used (row_of_part p)
   own_place k at = ap (λ (v : Version). v.0) at ∙ next_at h seen p mine
 
   -- the Create of the caller's next object stands
@@ -219,7 +222,7 @@ module _ {U : Type 0} (lawful : U → PlainStore → Type 0) (allowed : U → Pl
       → CreateStands store p.number k.name k.contents.refs k.contents.numbers
   create_stands k first =
       let maker : k.name.maker ≡ p.number = ap (λ (n : Name). n.maker) first.name in
-      let made : made_count p.number store ≡ create_count p.mine =
+      let made : made_count p.number store ≡ create_count p.calls.mine =
       made_count-legal p.number p.site.start h.history good.history.legal ∙ ap create_count mine.calls.all in
       let count : k.name.count ≡ made_count p.number store = ap (λ (n : Name). n.count) first.name ∙ sym made
       in
@@ -232,17 +235,38 @@ module _ {U : Type 0} (lawful : U → PlainStore → Type 0) (allowed : U → Pl
         sized = first.built.sized;
       }
 
+  -- the heap with a version more, whose words and entries are these
+  abbrev with_version : List ℕ → Known → List Entry → Heap
+  with_version words k es = record {
+    words = words;
+    index = with_one h.index k;
+    places = places_with h.places (row_of_part p) (Some k);
+    history = h.history ++ es;
+  }
+
+  -- a version that lies at the next place, in a row of the caller's
+  pub record Lies (k : Known) : Type 0 where
+    room : HasRoom p
+    version : k.version ≡ next_version p
+    sized : IsSizedVersion k
+    rank : k.rank < total h.places.made (row_count s) + 1
+
+  placed_with : (k : Known) → Lies k
+      → ArePlaced s (with_one h.index k) (raised h.places.used (row_of_part p))
+  placed_with k l = placed_more s h.index h.places (row_of_part p) k good.placed (row_below h seen p mine)
+      (room_left h seen p mine l.room) (own_place k l.version) l.sized
+
+  ranked_with : (k : Known) → Lies k
+      → AreRanked s (with_one h.index k) (places_with h.places (row_of_part p) (Some k)) 0
+  ranked_with k l = ranked_more s h.index h.places (row_of_part p) k good.placed (row_below h seen p mine)
+      (room_left h seen p mine l.room) (own_place k l.version) 0 good.ranked l.rank
+
   -- a new object is published
-  published : (k : Known) → IsFirst known p k
-      → make
-      (Create p.number k.name k.contents.refs k.contents.numbers)
-      → Kept record {
-        words = slice_set h.words (word_at s (next_version p) 0) 0;
-        index = with_one h.index k;
-        used = used_with h.used (row_of_part p) (Some k);
-        history = h.history ++ Create p.number k.name k.contents.refs k.contents.numbers ∷ [];
-      }
-  published k first may =
+  published : (k : Known) → MayPublish known make p k
+      → Kept (with_version (slice_set h.words (word_at s (next_version p) 0) 0) k
+      (Create p.number k.name k.contents.refs k.contents.numbers ∷ []))
+  published k may =
+      let first = may.first in
       let e : Entry = Create p.number k.name k.contents.refs k.contents.numbers in
       let words : List ℕ = slice_set h.words (word_at s (next_version p) 0) 0 in
       let none = fresh_none lawful allowed h seen p good mine k first.room first.version in
@@ -259,12 +283,17 @@ module _ {U : Type 0} (lawful : U → PlainStore → Type 0) (allowed : U → Pl
       ap (λ (v : Version). slice_index words (word_at s v 0)) first.version
       ∙ written_here s h.words (next_version p) 0 0 good.wide
       (next_small lawful allowed h seen p good mine first.room) (omega arith) in
-      let rank = first.rank in
+      let lies : Lies k = record {
+        room = first.room;
+        version = first.version;
+        sized = (let a = first.stamp in record { stamp = omega arith; contents = first.built.sized });
+        rank = let rank = first.rank in omega arith;
+      } in
       record {
         wide = length-set h.words (word_at s (next_version p) 0) 0 ∙ good.wide;
-        placed = placed_more s h.index h.used (row_of_part p) k good.placed (row_below h seen p mine)
-            (room_left h seen p mine first.room) (own_place k first.version) (omega arith)
-            (let a = first.stamp in record { stamp = omega arith; contents = first.built.sized });
+        head = head_beside (next_version p) 0 0;
+        placed = placed_with k lies;
+        ranked = ranked_with k lies;
         contents = true_more s h.index h.words words k none
             (λ x j some low. elsewhere s h.words x (next_version p) j 0 0 low (omega arith)
             (inr (λ z. omega arith)))
@@ -274,26 +303,59 @@ module _ {U : Type 0} (lawful : U → PlainStore → Type 0) (allowed : U → Pl
             (λ n. there_after store e n) made here links stands.fresh
             (λ m. contents_of-push store (k.name, new_contents k.contents.refs k.contents.numbers) m.name
             m.contents));
-        history = history_with e may stands;
+        history = history_with e may.may stands;
         callers = below_more s.callers p.number h.history (Some e) refl mine.number good.callers;
       }
 
-  -- a version is hung on the last one of its object
-  hung : (at k : Known) (e : Entry) → MayLookInto p at → IsLater p at k → Turns known p at k.contents e
-      → make e
-      → 0 ≡ link_of s h.words at
-      → Kept record {
-        words = slice_set h.words (word_at s at.version 0) (naming_word (Some k.version));
-        index = with_one h.index k;
-        used = used_with h.used (row_of_part p) (Some k);
-        history = h.history ++ e ∷ [];
+  -- what an entry, or none, makes of the last version of an object
+  record Makes (at : Known) (x : Contents) (o : Option Entry) : Type 0 where
+    stamp : x.stamp ≤ at.contents.stamp + 1
+    made : contents_of (store_of (h.history ++ listed o)) at.name ≡ Some x
+    others : (n : Name) → at.name ≢ n
+        → contents_of (store_of (h.history ++ listed o)) n ≡ contents_of store n
+    keeps : (n : Name) → IsThere store n → IsThere (store_of (h.history ++ listed o)) n
+    history : IsLawful (lawful p.site.usage) (allowed p.site.usage) p.site.start (h.history ++ listed o)
+    callers : AreBelow s.callers (h.history ++ listed o)
+
+  makes : (at : Known) (x : Contents) (o : Option Entry) → TurnsBy known p at x o → IfSome o make
+      → contents_of store at.name ≡ Some at.contents → Makes at x o
+  makes at x None turns may present =
+      let same : h.history ++ [] ≡ h.history = append-nil h.history in
+      let stays : store_of (h.history ++ []) ≡ store = ap store_of same in
+      record {
+        stamp = let e : x.stamp ≡ at.contents.stamp = ap (λ (z : Contents). z.stamp) turns in omega arith;
+        made = ap (λ (t : PlainStore). contents_of t at.name) stays
+            ∙ (present ∙ ap (λ (z : Contents). Some z) (sym turns));
+        others = λ n ne. ap (λ (t : PlainStore). contents_of t n) stays;
+        keeps = λ n there. subst (λ (t : PlainStore). IsThere t n) (sym stays) there;
+        history = subst (IsLawful (lawful p.site.usage) (allowed p.site.usage) p.site.start) (sym same)
+            good.history;
+        callers = subst (AreBelow s.callers) (sym same) good.callers;
       }
-  hung at k e look later turns may zero_link =
+  makes at x (Some e) turns may present =
+      let t = turns_stand p store known (λ n there. there) at x e present turns in
+      let now : store_of (h.history ++ e ∷ []) ≡ effect_of store e = store_one e in
+      record {
+        stamp = let a = t.stamp in omega arith;
+        made = ap (λ (z : PlainStore). contents_of z at.name) now ∙ t.made;
+        others = λ n ne. ap (λ (z : PlainStore). contents_of z n) now ∙ t.others n ne;
+        keeps = λ n there. subst (λ (z : PlainStore). IsThere z n) (sym now) (there_after store e n there);
+        history = history_with e may t.stands;
+        callers = below_more s.callers p.number h.history (Some e) t.by mine.number good.callers;
+      }
+
+  -- a version is hung on the last one of its object
+  hung : (at k : Known) (o : Option Entry) → MayLink known make p at k o
+      → 0 ≡ link_of s h.words at
+      → Kept (with_version (slice_set h.words (word_at s at.version 0) (naming_word (Some k.version))) k
+      (listed o))
+  hung at k o may zero_link =
+      let later = may.later in
       let words : List ℕ = slice_set h.words (word_at s at.version 0) (naming_word (Some k.version)) in
-      let is : IsPublished h.index at = there at look in
+      let is : IsPublished h.index at = there at may.look in
       let none = fresh_none lawful allowed h seen p good mine k later.room later.version in
-      let t = turns_stand p store known (λ n there. there) at k.contents e
-      (present_at lawful allowed h seen p good mine at look zero_link) turns in
+      let t = makes at k.contents o may.turns may.may
+      (present_at lawful allowed h seen p good mine at may.look zero_link) in
       let apart : at.version.0 ≢ k.version.0 = not_the_one h.index k at none is in
       let links : (m : Known) → IsPublished h.index m → m.version.0 ≢ at.version.0
       → link_of s words m ≡ link_of s h.words m =
@@ -308,42 +370,86 @@ module _ {U : Type 0} (lawful : U → PlainStore → Type 0) (allowed : U → Pl
       (inl (λ x. apart (sym x)))
       ∙ (ap (λ (v : Version). slice_index h.words (word_at s v 0)) later.version
       ∙ mine.draft.written later.room 0 0 later.link) in
-      let made : contents_of (effect_of store e) k.name ≡ Some k.contents =
-      ap (contents_of (effect_of store e)) later.name ∙ t.made in
-      let before = good.placed.ranks at is in
-      let rank = later.rank in
+      let made : contents_of (store_of (h.history ++ listed o)) k.name ≡ Some k.contents =
+      ap (contents_of (store_of (h.history ++ listed o))) later.name ∙ t.made in
+      let lies : Lies k = record {
+        room = later.room;
+        version = later.version;
+        sized = (let a = t.stamp in let b = (good.placed.sized at is).stamp in let rank = later.rank in
+            record { stamp = omega arith; contents = later.built.sized });
+        rank = let before = good.ranked.ranks at is in let rank = later.rank in omega arith;
+      } in
       record {
         wide = length-set h.words (word_at s at.version 0) (naming_word (Some k.version)) ∙ good.wide;
-        placed = placed_more s h.index h.used (row_of_part p) k good.placed (row_below h seen p mine)
-            (room_left h seen p mine later.room) (own_place k later.version) (omega arith)
-            (let a = t.stamp in let b = (good.placed.sized at is).stamp in
-            record { stamp = omega arith; contents = later.built.sized });
+        head = head_beside at.version 0 (naming_word (Some k.version));
+        placed = placed_with k lies;
+        ranked = ranked_with k lies;
         contents = true_more s h.index h.words words k none
             (λ x j some low. elsewhere s h.words x at.version j 0 (naming_word (Some k.version)) low
             (omega arith)
             (inr (λ z. omega arith)))
             good.contents (built k later.room later.version later.built);
-        chained = subst (AreChained s words (with_one h.index k)) (sym (store_one e))
-            (chained_hung s h.words words h.index store (effect_of store e) k none good.chained
-            (λ n. there_after store e n) made own at is (sym zero_link) here links later.name later.rank
-            t.others);
-        history = history_with e may t.stands;
-        callers = below_more s.callers p.number h.history (Some e) t.by mine.number good.callers;
+        chained = chained_hung s h.words words h.index store (store_of (h.history ++ listed o)) k none
+            good.chained t.keeps made own at is (sym zero_link) here links later.name later.rank t.others;
+        history = t.history;
+        callers = t.callers;
       }
+
+  -- a word that is found stays, and where nothing is made all else does
+  still : (w x : ℕ) → x ≡ slice_index h.words w
+      → Kept record h { words = slice_set h.words w x; history = h.history ++ [] }
+  still w x is = subst (λ (l : List ℕ). Kept record h { words = l; history = h.history ++ [] })
+      (sym (same_word h.words w x is)) (read None tt tt)
+
+  -- the entry that a load makes reads the last version, and so leaves the store
+  reading : (l : Look) → MayLook known make p l → (x : ℕ)
+      → x ≡ slice_index h.words (word_of p (Looks l))
+      → (o : Option Entry) → want_of l ≡ o
+      → IfSome (where_zero o x) make
+      × IfSome (where_zero o x) (λ e. Stands store e × (effect_of store e ≡ store) × (caller_of e ≡ p.number))
+  reading l may x is None e = (tt, tt)
+  reading l may (suc v) is (Some o) e = (tt, tt)
+  reading l may zero is (Some o) e = let it = wants_link l o e in (
+    from_some make (want_of l) o e may.may,
+    reads_stand p store known (λ n there. there) (looked_at l) o
+        (present_at lawful allowed h seen p good mine (looked_at l) may.look
+        (is ∙ ap (λ (i : ℕ). slice_index h.words (word_at s (looked_at l).version i)) it))
+        (from_some (Reads known p (looked_at l)) (want_of l) o e may.reads),
+  )
+
+  looked : (l : Look) → MayLook known make p l → (x : ℕ) → x ≡ slice_index h.words (word_of p (Looks l))
+      → Kept (heap_after h p (Looks l) x)
+  looked l may x is =
+      let r = reading l may x is (want_of l) refl in
+      subst (λ (words : List ℕ). Kept record h {
+        words = words;
+        history = h.history ++ listed (where_zero (want_of l) x);
+      })
+      (sym (same_word h.words (word_of p (Looks l)) x is)) (read (where_zero (want_of l) x) r.0 r.1)
+
+  -- where an exchange finds a link, it leaves that
+  exchanged : (at k : Known) (o : Option Entry) → MayLink known make p at k o → (x : ℕ)
+      → x ≡ slice_index h.words (word_at s at.version 0)
+      → (w : Option Entry) → o ≡ w → Kept (heap_after h p (Builds (LinkStore at k w)) x)
+  exchanged at k o may zero is None e =
+      subst (λ (w : Option Entry). Kept (with_version
+      (slice_set h.words (word_at s at.version 0) (naming_word (Some k.version))) k (listed w)))
+      e (hung at k o may is)
+  exchanged at k o may zero is (Some w) e =
+      subst (λ (w : Option Entry). Kept (with_version
+      (slice_set h.words (word_at s at.version 0) (naming_word (Some k.version))) k (listed w)))
+      e (hung at k o may is)
+  exchanged at k o may (suc n) is None e = still (word_at s at.version 0) (suc n) is
+  exchanged at k o may (suc n) is (Some w) e = still (word_at s at.version 0) (suc n) is
 
   -- a move leaves a good heap
   pub heap_step : (act : Act) → MayTake known make p act → (x : ℕ)
       → x ≡ slice_index h.words (word_of p act) → Kept (heap_after h p act x)
-  heap_step (LoadStamp at) may x is = still (word_at s at.version 1) x is
-  heap_step (LoadReference at i) may x is = still (word_at s at.version (2 + i)) x is
-  heap_step (LoadNumber at i) may x is = still (word_at s at.version (6 + i)) x is
-  heap_step (LoadLink at None) may zero is = still (word_at s at.version 0) zero is
-  heap_step (LoadLink at (Some e)) may zero is =
-      read (word_at s at.version 0) zero e is may.1.1
-      (reads_stand p store known (λ n there. there) at e
-      (present_at lawful allowed h seen p good mine at may.0 is) may.1.0)
-  heap_step (LoadLink at want) may (suc n) is = still (word_at s at.version 0) (suc n) is
-  heap_step (StoreOwn i word) may x is = wrote i word may.below may.room
-  heap_step (Publish k) may x is = published k may.0 may.1
-  heap_step (LinkStore at k e) may zero is = hung at k e may.look may.later may.turns may.may is
-  heap_step (LinkStore at k e) may (suc n) is = still (word_at s at.version 0) (suc n) is
+  heap_step (Looks l) may x is = looked l may x is
+  heap_step (Builds (StoreOwn i word)) may x is =
+      subst (λ (l : List Entry). Kept record h {
+        words = slice_set h.words (word_at s (next_version p) i) word;
+        history = l;
+      }) (sym (append-nil h.history)) (wrote i word may.below may.room)
+  heap_step (Builds (Publish k)) may x is = published k may
+  heap_step (Builds (LinkStore at k o)) may x is = exchanged at k o may x is o refl

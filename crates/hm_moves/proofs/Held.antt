@@ -6,7 +6,9 @@ use Rattle.std.proofs.lemmas.List.Elements.{Contains-push_cases, Contains-append
 use native.Mathlib.Decide.{dec_le}
 use Rattle.hm_shape.specs.Words.{naming_word}
 use Rattle.hm_moves.specs.declared.part.Known.{Known}
-use Rattle.hm_moves.specs.Moving.{listed, is_version, without, with_held, is_naming, unless_named, unnamed_from, unnamed, nothing_written, IsWritten, Names}
+use Rattle.hm_moves.specs.Acts.{listed, where_zero}
+use Rattle.hm_moves.specs.After.{is_version, without, with_held, is_naming, unless_named, unnamed_from, unnamed, nothing_written}
+use Rattle.hm_moves.specs.Allowed.{IsWritten, Names}
 
 -- a list with one more or none
 pub listed_cases : {A : Type 0} (l : List A) (o : Option A) (a : A) → Contains (l ++ listed o) a
@@ -19,6 +21,18 @@ listed_cases {A} l (Some b) a h =
 pub from_some : {A : Type 0} (P : A → Type 0) (o : Option A) (a : A) → o ≡ Some a → IfSome o P → P a
 from_some P None a e h = cc
 from_some P (Some b) a e h = let is : b ≡ a = cc in subst P is h
+
+-- what there is has what follows from what it has
+pub some_more : {A : Type 0} (P Q : A → Type 0) → ((a : A) → P a → Q a) → (o : Option A) → IfSome o P
+    → IfSome o Q
+some_more P Q f None h = tt
+some_more P Q f (Some a) h = f a h
+
+-- and so has what comes only where 0 was found
+pub zero_some : {A : Type 0} (P : A → Type 0) (o : Option A) (x : ℕ) → IfSome o P → IfSome (where_zero o x) P
+zero_some P None x h = tt
+zero_some P (Some a) zero h = h
+zero_some P (Some a) (suc v) h = tt
 
 -- what is held with one version more
 pub held_cases : (held : List Known) (o : Option Known) (k : Known) → Contains (with_held held o) k
@@ -46,10 +60,10 @@ module _ {A : Type 0} where
   contains_first x y xs (zero, low, is) = inl is
   contains_first x y xs (suc k, low, is) = inr (k, (omega arith), is)
 
-  contains_behind : (x y : A) (xs : List A) → Contains xs x → Contains (y ∷ xs) x
+  pub contains_behind : (x y : A) (xs : List A) → Contains xs x → Contains (y ∷ xs) x
   contains_behind x y xs (k, low, is) = (suc k, (omega arith), is)
 
-  contains_here : (x y : A) (xs : List A) → y ≡ x → Contains (y ∷ xs) x
+  pub contains_here : (x y : A) (xs : List A) → y ≡ x → Contains (y ∷ xs) x
   contains_here x y xs is = (zero, (omega arith), is)
 
   -- what passes a test was there

@@ -7,9 +7,9 @@ use Rattle.hm_model.specs.declared.entry.Entry.{Entry}
 use Rattle.hm_model.specs.Store.{PlainStore}
 use Rattle.hm_model.specs.Effect.{caller_of, Stands}
 use Rattle.hm_model.specs.History.{store_after, store_of, AllStand, calls_of, AreOthers, opening_of}
-use Rattle.hm_model.specs.Lawful.{MayCome, AllCome, IsLawful, UsageLaws}
+use Rattle.hm_model.specs.Lawful.{MayCome, AllCome, IsLawful, UsageLaws, MayMake}
 use Rattle.hm_model.proofs.HistoryFacts.{store_after-append, calls_of-append, all_stand_parts, all_come_parts, lawful_more}
-use Rattle.hm_moves.specs.Moving.{listed, MayMake}
+use Rattle.hm_moves.specs.Acts.{listed}
 use Rattle.hm_moves.specs.Good.{Begins, AreBelow, longer, HasCalls}
 
 -- the entry, if there is one, is by this caller

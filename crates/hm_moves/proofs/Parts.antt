@@ -1,5 +1,5 @@
 -- What a move leaves of the caller that makes it, and of the others.
-use Rattle.std.proofs.Common.{◌≡◌, ◌≢◌, ◌⊎◌, ◌<◌, ◌+◌, ◌*◌, ℕ, zero, suc, true, List, [], ◌∷◌, ◌++◌, length, set, slice_index, slice_set, get_or, Option, Some, None, IfSome, Contains, refl, sym, ap, ◌∙◌, subst, arith, inl, inr, ⊎_elim, append-nil, length-set, get_or-set_same, get_or-set_other}
+use Rattle.std.proofs.Common.{◌≡◌, ◌≢◌, ◌⊎◌, ◌||◌, ◌<◌, ◌+◌, ◌*◌, ℕ, zero, suc, true, List, [], ◌∷◌, ◌++◌, length, set, slice_index, slice_set, get_or, Option, Some, None, IfSome, Contains, refl, sym, ap, ◌∙◌, subst, arith, inl, inr, ⊎_elim, append-nil, length-set, get_or-set_same, get_or-set_other, append_assoc, false, ne_eqb, Bool, ◌||◌}
 use Rattle.std.proofs.lemmas.List.Elements.{Contains-push, Contains-append_left}
 use native.Mathlib.Decide.{ℕ_discrete}
 use mathlib.Core.Logic.{dite}
@@ -15,16 +15,47 @@ use Rattle.hm_model.specs.Lawful.{IsLawful}
 use Rattle.hm_moves.specs.declared.part.Known.{Known}
 use Rattle.hm_moves.specs.declared.part.Part.{Part}
 use Rattle.hm_moves.specs.declared.moving.Act.{Act}
-use Rattle.hm_moves.specs.declared.moving.Act.TheVariants.{LoadStamp, LoadReference, LoadNumber, LoadLink, StoreOwn, Publish, LinkStore}
+use Rattle.hm_moves.specs.declared.moving.Act.TheVariants.{Looks, Builds}
+use Rattle.hm_moves.specs.declared.moving.Look.{Look}
+use Rattle.hm_moves.specs.declared.moving.Look.TheVariants.{LoadStamp, LoadReference, LoadNumber, LoadLink}
+use Rattle.std.specs.List.{list_any}
+use Rattle.hm_moves.specs.declared.moving.Build.TheVariants.{StoreOwn, Publish, LinkStore}
 use Rattle.hm_moves.specs.declared.moving.Move.{Move}
-use Rattle.hm_moves.specs.Chain.{Heap, IsPublished, row_of}
-use Rattle.hm_moves.specs.Moving.{next_version, word_of, becomes, heap_after, entry_of, publishes, finds, listed, index_with, used_with, row_of_part, count_of, is_naming, written_with, without, with_held, hands_after, part_after, seen_after, IsWritten, Names, HasRoom, IsWritable, MayLookInto, MayTake}
-use Rattle.hm_moves.specs.Good.{Begins, HeapIsGood, PartIsGood, HasCalls, AreIndexed}
+use Rattle.hm_moves.specs.Places.{Heap, row_of, raised, Places, IsOwn, places_with}
+use Rattle.hm_moves.specs.Chain.{IsPublished, Index}
+use Rattle.hm_moves.specs.Acts.{next_version, word_of, becomes, entry_of, publishes, finds, listed, looked_at, looked_word}
+use Rattle.hm_moves.specs.After.{heap_after, index_with, row_of_part, count_of, is_naming, written_with, without, with_held, hands_after, part_after, seen_after, is_version}
+use Rattle.hm_moves.specs.Allowed.{IsWritten, Names, HasRoom, IsWritable, MayLookInto, MayTake, IsWordOf}
+use Rattle.hm_moves.specs.Good.{Begins, HeapIsGood, PartIsGood, HasCalls, AreIndexed, AreApart, published_of}
 use Rattle.hm_moves.proofs.Histories.{IsBy, calls_after, calls_beside, begins_more, begins_on, begins_self, lawful_before}
-use Rattle.hm_moves.proofs.Placed.{published_either, used_here, used_else, same_row, elsewhere, written_here}
-use Rattle.hm_moves.proofs.Held.{listed_cases, from_some, held_cases, held_stays, without_held, none_written, written_low, unnamed_wide, unnamed_was, names_without, names_more}
+use Rattle.hm_moves.proofs.Placed.{published_either, raised_here, raised_else, same_row, elsewhere, written_here, raised_here, raised_else, not_the_one}
+use Rattle.hm_moves.proofs.Held.{listed_cases, from_some, held_cases, held_stays, without_held, none_written, written_low, unnamed_wide, unnamed_was, names_without, names_more, contains_here, contains_behind}
 use Rattle.hm_moves.proofs.Heaps.{same_word, look_published, next_small}
 use Rattle.hm_moves.proofs.Finding.{next_now, index_more, index_here, entry_by, fresh_now, found_now}
+use Rattle.std.proofs.lemmas.List.Folds.{list_any-append}
+
+-- a load moves one of the words of a version
+look_low : (l : Look) → IsWordOf l → looked_word l < 16
+look_low (LoadStamp at) h = omega arith
+look_low (LoadReference at i) h = omega arith
+look_low (LoadNumber at i) h = omega arith
+look_low (LoadLink at want) h = omega arith
+
+-- versions stay apart where one comes behind them that has another number than each
+apart_with : (l : List Known) (o : Option Known) → AreApart l
+    → ((k n : Known) → Contains l k → o ≡ Some n → k.version.0 ≢ n.version.0) → AreApart (l ++ listed o)
+apart_with [] None h f = tt
+apart_with [] (Some n) h f = (refl, tt)
+apart_with (k ∷ ks) o h f = (
+  list_any-append (is_version k) ks (listed o)
+      ∙ (ap (λ (b : Bool). b || list_any (is_version k) (listed o)) h.0 ∙ none_else o (λ n. f k n (contains_here k k ks refl))),
+  apart_with ks o h.1 (λ m n there. f m n (contains_behind m k ks there)),
+)
+  where
+    none_else : (r : Option Known) → ((n : Known) → r ≡ Some n → k.version.0 ≢ n.version.0)
+        → list_any (is_version k) (listed r) ≡ false
+    none_else None g = refl
+    none_else (Some n) g = rw (ne_eqb n.version.0 k.version.0 (λ e. g n refl (sym e))) refl
 
 module _ {U : Type 0} (lawful : U → PlainStore → Type 0) (allowed : U → PlainStore → Entry → Type 0)
     (h : Heap) (seen : List Entry) (p : Part U) (good : HeapIsGood lawful allowed p.site h)
@@ -39,20 +70,26 @@ module _ {U : Type 0} (lawful : U → PlainStore → Type 0) (allowed : U → Pl
   abbrev own_word : List ℕ → ℕ → ℕ → ℕ
   own_word words used j = slice_index words (word_at s (version_at s p.number p.draft.region used) j)
 
-  used_after : (o : Option Known) → p.draft.used + count_of o ≡ used_with h.used (row_of_part p) o
-      (row_of_part p)
+  -- the places afterwards
+  abbrev places : Option Known → Places
+  places o = places_with h.places (row_of_part p) o
+
+  used_after : (o : Option Known) → p.draft.used + count_of o ≡ (places o).used (row_of_part p)
   used_after None = let a = mine.draft.used in omega arith
-  used_after (Some k) = let a = mine.draft.used in let b = used_here h.used (row_of_part p) k in omega arith
+  used_after (Some k) =
+      let a = mine.draft.used in let b = raised_here h.places.used (row_of_part p) in omega arith
+
+  -- no act changes where callers write
+  to_same : (o : Option Known) (q : ℕ) → (places o).to q ≡ h.places.to q
+  to_same None q = refl
+  to_same (Some k) q = refl
 
   wide_with : (act : Act) (o : Option Known) → length (written_with p.draft.written act o) ≡ 16
   wide_with act (Some k) = refl
-  wide_with (StoreOwn i word) None = length-set p.draft.written i (Some word) ∙ mine.draft.wide
-  wide_with (LoadStamp at) None = mine.draft.wide
-  wide_with (LoadReference at i) None = mine.draft.wide
-  wide_with (LoadNumber at i) None = mine.draft.wide
-  wide_with (LoadLink at want) None = mine.draft.wide
-  wide_with (Publish k) None = mine.draft.wide
-  wide_with (LinkStore at k e) None = mine.draft.wide
+  wide_with (Looks l) None = mine.draft.wide
+  wide_with (Builds (StoreOwn i word)) None = length-set p.draft.written i (Some word) ∙ mine.draft.wide
+  wide_with (Builds (Publish k)) None = mine.draft.wide
+  wide_with (Builds (LinkStore at k o)) None = mine.draft.wide
 
   -- a word more is stored: it is that one, or one from before
   stored_cases : (i word j w : ℕ) → IsWritten (set p.draft.written i (Some word)) j w → i < 16
@@ -93,80 +130,104 @@ module _ {U : Type 0} (lawful : U → PlainStore → Type 0) (allowed : U → Pl
       → IsWritten (written_with p.draft.written act (publishes act x)) j w
       → own_word (slice_set h.words (word_of p act) (becomes act x))
       (p.draft.used + count_of (publishes act x)) j ≡ w
-  written_after (LoadStamp at) may x is =
-      as_before (slice_set h.words (word_at s at.version 1) x)
-      (same_word h.words (word_at s at.version 1) x is)
-  written_after (LoadReference at i) may x is =
-      as_before (slice_set h.words (word_at s at.version (2 + i)) x)
-      (same_word h.words (word_at s at.version (2 + i)) x is)
-  written_after (LoadNumber at i) may x is =
-      as_before (slice_set h.words (word_at s at.version (6 + i)) x)
-      (same_word h.words (word_at s at.version (6 + i)) x is)
-  written_after (LoadLink at want) may x is =
-      as_before (slice_set h.words (word_at s at.version 0) x)
-      (same_word h.words (word_at s at.version 0) x is)
-  written_after (StoreOwn i word) may x is = one_more i word may
-  written_after (Publish k) may x is = λ room j w e. absurd (none_written j w e)
-  written_after (LinkStore at k e) may zero is = λ room j w e. absurd (none_written j w e)
-  written_after (LinkStore at k e) may (suc n) is =
+  written_after (Looks l) may x is =
+      as_before (slice_set h.words (word_of p (Looks l)) x) (same_word h.words (word_of p (Looks l)) x is)
+  written_after (Builds (StoreOwn i word)) may x is = one_more i word may
+  written_after (Builds (Publish k)) may x is = λ room j w e. absurd (none_written j w e)
+  written_after (Builds (LinkStore at k o)) may zero is = λ room j w e. absurd (none_written j w e)
+  written_after (Builds (LinkStore at k o)) may (suc n) is =
       as_before (slice_set h.words (word_at s at.version 0) (suc n))
       (same_word h.words (word_at s at.version 0) (suc n) is)
 
   -- before a version is let go, the words that were written name held versions
   named_before : (act : Act) → May act → (x j w : ℕ) → is_naming j ≡ true
       → IsWritten (written_with p.draft.written act (publishes act x)) j w → Names p.hands.held w
-  named_before (LoadStamp at) may x j w n is = mine.draft.named j w n is
-  named_before (LoadReference at i) may x j w n is = mine.draft.named j w n is
-  named_before (LoadNumber at i) may x j w n is = mine.draft.named j w n is
-  named_before (LoadLink at want) may x j w n is = mine.draft.named j w n is
-  named_before (StoreOwn i word) may x j w n is = ⊎_elim
+  named_before (Looks l) may x j w n is = mine.draft.named j w n is
+  named_before (Builds (StoreOwn i word)) may x j w n is = ⊎_elim
       (λ (t : (j ≡ i) × (word ≡ w)). subst (Names p.hands.held) t.1 (may.named (ap is_naming (sym t.0) ∙ n)))
       (λ (t : (j ≢ i) × IsWritten p.draft.written j w). mine.draft.named j w n t.1)
       (stored_cases i word j w is may.below)
-  named_before (Publish k) may x j w n is = absurd (none_written j w is)
-  named_before (LinkStore at k e) may zero j w n is = absurd (none_written j w is)
-  named_before (LinkStore at k e) may (suc m) j w n is = mine.draft.named j w n is
+  named_before (Builds (Publish k)) may x j w n is = absurd (none_written j w is)
+  named_before (Builds (LinkStore at k o)) may zero j w n is = absurd (none_written j w is)
+  named_before (Builds (LinkStore at k o)) may (suc m) j w n is = mine.draft.named j w n is
 
-  -- a version that it publishes is listed
-  own_more : (o : Option Known) (k : Known) (region place : ℕ) → IsPublished (index_with h.index o) k
-      → IsAt s k.version p.number region place → Contains (p.hands.published ++ listed o) k
-  own_more None k region place there at =
-      subst (λ (l : List Known). Contains l k) (sym (append-nil p.hands.published))
-      (mine.hands.own k region place there at)
-  own_more (Some f) k region place there at = ⊎_elim
-      (λ (t : f ≡ k). subst (Contains (p.hands.published ++ f ∷ [])) t (Contains-push p.hands.published f))
+  -- what it has published afterwards
+  abbrev listed_with : Option Known → List Known
+  listed_with o = published_of p.hands ++ listed o
+
+  -- a version that it publishes is its own
+  fresh_own : (index : Index) (k : Known) → (k.version ≡ next_version p) × HasRoom p → IsPublished index k
+      → IsOwn s p.number index k
+  fresh_own index k t there = record {
+    published = there;
+    region = p.draft.region;
+    place = p.draft.used;
+    at = record {
+      number = t.0;
+      owner_fits = mine.number;
+      region_fits = mine.draft.region;
+      place_fits = t.1;
+    };
+  }
+
+  -- and what was its own is so still
+  still_own : (q : ℕ) (o : Option Known) (k : Known) → IfSome o (λ n. h.index n.version.0 ≡ None)
+      → IsOwn s q h.index k → IsOwn s q (index_with h.index o) k
+  still_own q o k fresh own = record {
+    published = index_more h.index o k fresh own.published;
+    region = own.region;
+    place = own.place;
+    at = own.at;
+  }
+
+  own_more : (o : Option Known) (k : Known) → IsOwn s p.number (index_with h.index o) k
+      → Contains (listed_with o) k
+  own_more None k own = subst (λ (l : List Known). Contains l k) (sym (append-nil (published_of p.hands)))
+      (mine.hands.all k own)
+  own_more (Some f) k own = ⊎_elim
+      (λ (t : f ≡ k). subst (Contains (listed_with (Some f))) t (Contains-push (published_of p.hands) f))
       (λ (t : (k.version.0 ≢ f.version.0) × IsPublished h.index k).
-      Contains-append_left p.hands.published (f ∷ []) k (mine.hands.own k region place t.1 at))
-      (published_either h.index f k there)
+      Contains-append_left (published_of p.hands) (f ∷ []) k
+      (mine.hands.all k (record { published = t.1; region = own.region; place = own.place; at = own.at })))
+      (published_either h.index f k own.published)
 
   -- the caller's hands afterwards have published versions
-  hands_now : (m : Move) (x : ℕ) (found : Option Known) → IfSome (publishes m.act x)
-      (λ k. h.index k.version.0 ≡ None)
+  hands_now : (m : Move) (x : ℕ) (found : Option Known)
+      → IfSome (publishes m.act x) (λ k. (k.version ≡ next_version p) × HasRoom p)
+      → IfSome (publishes m.act x) (λ k. h.index k.version.0 ≡ None)
       → IfSome found (IsPublished h.index)
       → AreIndexed s p.number (index_with h.index (publishes m.act x)) (hands_after p.hands m x found)
-  hands_now m x found fresh is = record {
-    held = λ k there. ⊎_elim
-        (λ (t : Contains (with_held (without p.hands.held m.let_go) found) k).
-        index_more h.index (publishes m.act x) k fresh (⊎_elim
-        (λ (r : Contains (without p.hands.held m.let_go) k).
-        mine.hands.held k (without_held p.hands.held m.let_go k r))
-        (λ (r : found ≡ Some k). from_some (IsPublished h.index) found k r is)
-        (held_cases (without p.hands.held m.let_go) found k t)))
-        (λ (t : publishes m.act x ≡ Some k). index_here h.index (publishes m.act x) k t)
-        (held_cases (with_held (without p.hands.held m.let_go) found) (publishes m.act x) k there);
-    published = λ k there. ⊎_elim
-        (λ (t : Contains p.hands.published k).
-        index_more h.index (publishes m.act x) k fresh (mine.hands.published k t))
-        (λ (t : publishes m.act x ≡ Some k). index_here h.index (publishes m.act x) k t)
-        (listed_cases p.hands.published (publishes m.act x) k there);
-    own = own_more (publishes m.act x);
-  }
+  hands_now m x found next fresh is =
+      let new : Option Known = publishes m.act x in
+      let same : published_of (hands_after p.hands m x found) ≡ listed_with new =
+      sym (append_assoc p.hands.left p.hands.own (listed new)) in
+      record {
+        held = λ k there. ⊎_elim
+            (λ (t : Contains (with_held (without p.hands.held m.let_go) found) k).
+            index_more h.index new k fresh (⊎_elim
+            (λ (r : Contains (without p.hands.held m.let_go) k).
+            mine.hands.held k (without_held p.hands.held m.let_go k r))
+            (λ (r : found ≡ Some k). from_some (IsPublished h.index) found k r is)
+            (held_cases (without p.hands.held m.let_go) found k t)))
+            (λ (t : new ≡ Some k). index_here h.index new k t)
+            (held_cases (with_held (without p.hands.held m.let_go) found) new k there);
+        own = λ k there. ⊎_elim
+            (λ (t : Contains (published_of p.hands) k).
+            still_own p.number new k fresh (mine.hands.own k t))
+            (λ (t : new ≡ Some k). fresh_own (index_with h.index new) k (from_some
+            (λ n. (n.version ≡ next_version p) × HasRoom p) new k t next) (index_here h.index new k t))
+            (listed_cases (published_of p.hands) new k (subst (λ (l : List Known). Contains l k) same there));
+        all = λ k own. subst (λ (l : List Known). Contains l k) (sym same) (own_more new k own);
+        once = subst AreApart (sym same) (apart_with (published_of p.hands) new mine.hands.once
+            (λ k n there e. not_the_one h.index n k (from_some (λ f. h.index f.version.0 ≡ None) new n e fresh)
+            (mine.hands.own k there).published));
+      }
 
   module _ (begins : Begins seen h.history) where
     calls_seen : (o : Option Entry) → IsBy p.number o
-        → calls_of p.number (seen_after seen h.history o) ≡ p.mine ++ listed o
-    calls_seen None by = mine.calls.seen ∙ sym (append-nil p.mine)
-    calls_seen (Some e) by = calls_after p.number h.history p.mine (Some e) by mine.calls.all
+        → calls_of p.number (seen_after seen h.history o) ≡ p.calls.mine ++ listed o
+    calls_seen None by = mine.calls.seen ∙ sym (append-nil p.calls.mine)
+    calls_seen (Some e) by = calls_after p.number h.history p.calls.mine (Some e) by mine.calls.all
 
     pub opened_after : (o : Option Entry) → Begins (opening_of p.site.start) (seen_after seen h.history o)
     opened_after None = mine.calls.opened
@@ -203,6 +264,7 @@ module _ {U : Type 0} (lawful : U → PlainStore → Type 0) (allowed : U → Pl
           number = mine.number;
           draft = record {
             region = mine.draft.region;
+            to = mine.draft.to ∙ sym (to_same (publishes m.act x) p.number);
             used = used_after (publishes m.act x);
             wide = unnamed_wide m.let_go fresh_words ∙ wide_with m.act (publishes m.act x);
             written = λ room j w e. written_after m.act may x is room j w
@@ -212,10 +274,11 @@ module _ {U : Type 0} (lawful : U → PlainStore → Type 0) (allowed : U → Pl
                 (names_without p.hands.held m.let_go fresh_words j w e n
                 (named_before m.act may x j w n (unnamed_was m.let_go fresh_words j w e)));
           };
-          hands = hands_now m x found fresh (found_now lawful allowed h seen p good mine names make m.act may
-              x is).1;
+          hands = hands_now m x found
+              (next_now lawful allowed h seen p good mine names make m.act may x) fresh
+              (found_now lawful allowed h seen p good mine names make m.act may x is).1;
           calls = record {
-            all = calls_after p.number h.history p.mine (entry_of p.number m.act x) by mine.calls.all;
+            all = calls_after p.number h.history p.calls.mine (entry_of p.number m.act x) by mine.calls.all;
             seen = calls_seen (entry_of p.number m.act x) by;
             opened = opened_after (entry_of p.number m.act x);
           };
@@ -235,15 +298,15 @@ module _ {U : Type 0} (lawful : U → PlainStore → Type 0) (allowed : U → Pl
         theirs.draft.region
         mine.draft.region e)
 
-    used_same : (o : Option Known) → used_with h.used (row_of_part p) o their_row ≡ h.used their_row
+    used_same : (o : Option Known) → (places o).used their_row ≡ h.places.used their_row
     used_same None = refl
-    used_same (Some k) = used_else h.used (row_of_part p) their_row k other_row
+    used_same (Some k) = raised_else h.places.used (row_of_part p) their_row other_row
 
     their_none : q.draft.used < s.versions → h.index their_next.0 ≡ None
     their_none room =
         let a = theirs.draft.used in
         ap (λ (i : ℕ). h.index (their_row * s.versions + i)) a
-        ∙ good.placed.unused their_row (h.used their_row) (row_below_of q.number theirs.number) (omega arith)
+        ∙ good.placed.unused their_row (h.places.used their_row) (row_below_of q.number theirs.number) (omega arith)
         (omega arith)
       where
         row_below_of : (n : ℕ) → n < s.callers → row_of s n q.draft.region < s.callers * s.regions
@@ -262,40 +325,31 @@ module _ {U : Type 0} (lawful : U → PlainStore → Type 0) (allowed : U → Pl
     unmoved : (act : Act) → May act → q.draft.used < s.versions → (y j : ℕ) → j < 16
         → slice_index (slice_set h.words (word_of p act) y) (word_at s their_next j)
         ≡ slice_index h.words (word_at s their_next j)
-    unmoved (LoadStamp at) may room y j low =
-        elsewhere s h.words their_next at.version j 1 y low (omega arith) (inl (not_looked at may room))
-    unmoved (LoadReference at i) may room y j low =
-        let small = may.1 in
-        elsewhere s h.words their_next at.version j (2 + i) y low (omega arith)
-        (inl (not_looked at may.0 room))
-    unmoved (LoadNumber at i) may room y j low =
-        let small = may.1 in
-        elsewhere s h.words their_next at.version j (6 + i) y low (omega arith)
-        (inl (not_looked at may.0 room))
-    unmoved (LoadLink at want) may room y j low =
-        elsewhere s h.words their_next at.version j 0 y low (omega arith) (inl (not_looked at may.0 room))
-    unmoved (StoreOwn i word) may room y j low =
+    unmoved (Looks l) may room y j low =
+        elsewhere s h.words their_next (looked_at l).version j (looked_word l) y low
+        (look_low l may.word) (inl (not_looked (looked_at l) may.look room))
+    unmoved (Builds (StoreOwn i word)) may room y j low =
         elsewhere s h.words their_next (next_version p) j i y low may.below (inl (not_next may.room room))
-    unmoved (Publish k) may room y j low =
+    unmoved (Builds (Publish k)) may room y j low =
         elsewhere s h.words their_next (next_version p) j 0 y low (omega arith)
-        (inl (not_next may.0.room room))
-    unmoved (LinkStore at k e) may room y j low =
+        (inl (not_next may.first.room room))
+    unmoved (Builds (LinkStore at k o)) may room y j low =
         elsewhere s h.words their_next at.version j 0 y low (omega arith) (inl (not_looked at may.look room))
 
     -- its calls are as before, also in what a seat that carries both has seen
     pub calls_known : (o : Option Entry) → IsBy p.number o
-        → HasCalls p.site.start q.number q.mine (h.history ++ listed o) known
+        → HasCalls p.site.start q.number q.calls.mine (h.history ++ listed o) known
     calls_known o by = record {
-      all = calls_beside p.number q.number h.history q.mine o by (λ e. apart (sym e)) theirs.calls.all;
+      all = calls_beside p.number q.number h.history q.calls.mine o by (λ e. apart (sym e)) theirs.calls.all;
       seen = theirs.calls.seen;
       opened = theirs.calls.opened;
     }
 
     pub calls_along : (o : Option Entry) → IsBy p.number o → Begins known h.history
-        → HasCalls p.site.start q.number q.mine (h.history ++ listed o) (seen_after known h.history o)
+        → HasCalls p.site.start q.number q.calls.mine (h.history ++ listed o) (seen_after known h.history o)
     calls_along None by b = calls_known None by
     calls_along (Some e) by b =
-        let all = calls_beside p.number q.number h.history q.mine (Some e) by (λ z. apart (sym z))
+        let all = calls_beside p.number q.number h.history q.calls.mine (Some e) by (λ z. apart (sym z))
         theirs.calls.all in
         record {
           all = all;
@@ -317,18 +371,18 @@ module _ {U : Type 0} (lawful : U → PlainStore → Type 0) (allowed : U → Pl
         rows)
 
     their_own : (o : Option Known) → IfSome o (λ f. (f.version ≡ next_version p) × HasRoom p) → (k : Known)
-        (region place : ℕ) → IsPublished (index_with h.index o) k → IsAt s k.version q.number region place
-        → Contains q.hands.published k
-    their_own None f k region place there at = theirs.hands.own k region place there at
-    their_own (Some m) f k region place there at = ⊎_elim
-        (λ (t : m ≡ k). absurd (not_theirs k region place
-        (ap (λ (z : Known). z.version) (sym t) ∙ f.0) f.1 at))
-        (λ (t : (k.version.0 ≢ m.version.0) × IsPublished h.index k). theirs.hands.own k region place t.1 at)
-        (published_either h.index m k there)
+        → IsOwn s q.number (index_with h.index o) k → Contains (published_of q.hands) k
+    their_own None f k own = theirs.hands.all k own
+    their_own (Some m) f k own = ⊎_elim
+        (λ (t : m ≡ k). absurd (not_theirs k own.region own.place
+        (ap (λ (z : Known). z.version) (sym t) ∙ f.0) f.1 own.at))
+        (λ (t : (k.version.0 ≢ m.version.0) × IsPublished h.index k). theirs.hands.all k
+        (record { published = t.1; region = own.region; place = own.place; at = own.at }))
+        (published_either h.index m k own.published)
 
     -- a caller that makes no move
     pub other_part : (act : Act) → May act → (x : ℕ) → (after : List Entry)
-        → HasCalls p.site.start q.number q.mine (h.history ++ listed (entry_of p.number act x)) after
+        → HasCalls p.site.start q.number q.calls.mine (h.history ++ listed (entry_of p.number act x)) after
         → PartIsGood p.site (heap_after h p act x) after q
     other_part act may x after calls =
         let fresh = fresh_now lawful allowed h seen p good mine names make act may x in
@@ -337,6 +391,7 @@ module _ {U : Type 0} (lawful : U → PlainStore → Type 0) (allowed : U → Pl
           number = theirs.number;
           draft = record {
             region = theirs.draft.region;
+            to = theirs.draft.to ∙ sym (to_same (publishes act x) q.number);
             used = theirs.draft.used ∙ sym (used_same (publishes act x));
             wide = theirs.draft.wide;
             written = λ room j w is. unmoved act may room (becomes act x) j
@@ -345,10 +400,10 @@ module _ {U : Type 0} (lawful : U → PlainStore → Type 0) (allowed : U → Pl
           };
           hands = record {
             held = λ k there. index_more h.index (publishes act x) k fresh (theirs.hands.held k there);
-            published = λ k there. index_more h.index (publishes act x) k fresh
-                (theirs.hands.published k there);
-            own = their_own (publishes act x) (next_now lawful allowed h seen p good mine names make act may
+            own = λ k there. still_own q.number (publishes act x) k fresh (theirs.hands.own k there);
+            all = their_own (publishes act x) (next_now lawful allowed h seen p good mine names make act may
                 x);
+            once = theirs.hands.once;
           };
           calls = calls;
         }

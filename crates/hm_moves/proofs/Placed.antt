@@ -1,5 +1,5 @@
--- Where versions lie, and one version more.
-use Rattle.std.proofs.Common.{◌≡◌, ◌≢◌, ◌⊎◌, ◌<◌, ◌≤◌, ◌+◌, ◌*◌, ℕ, zero, suc, eqb, eq-eqb, ne_eqb, true, false, List, length, slice_index, slice_set, Option, Some, None, refl, sym, ap, ◌∙◌, subst, arith, inl, inr, ⊎_elim, get_or-set_other, get_or-set_same, suc-mul, mul-le-mul_right, lt_of_not-le}
+-- Where versions lie, how they are counted, and one version more.
+use Rattle.std.proofs.Common.{◌≡◌, ◌≢◌, ◌⊎◌, ◌<◌, ◌≤◌, ◌+◌, ◌*◌, ℕ, zero, suc, eqb, eq-eqb, ne_eqb, true, false, List, length, slice_index, slice_set, Option, Some, None, refl, sym, ap, ◌∙◌, subst, arith, inl, inr, ⊎_elim, get_or-set_other, get_or-set_same, suc-mul, mul-le-mul_right, lt_of_not-le, IsSome, Bool, mul-le-mul_left, if◌then◌else◌, mul-suc, mul_assoc}
 use Rattle.std.proofs.lemmas.Bool.Decides.{eqb_tells}
 use native.Mathlib.Decide.{ℕ_discrete, dec_le}
 use mathlib.Core.Logic.{dite}
@@ -9,8 +9,8 @@ use Rattle.hm_shape.specs.Versions.{IsVersionOf}
 use Rattle.hm_shape.specs.Words.{word_at, word_count}
 use Rattle.hm_model.specs.declared.object.Name.{Name}
 use Rattle.hm_moves.specs.declared.part.Known.{Known}
-use Rattle.hm_moves.specs.Chain.{Index, IsPublished, with_one, words_at, Refers, Follows, HasContents, AreTrue, IsSizedVersion, ArePlaced, row_count, total, reference_at}
-use Rattle.hm_moves.specs.Moving.{used_with}
+use Rattle.hm_moves.specs.Chain.{Index, IsPublished, with_one, words_at, Refers, Follows, HasContents, AreTrue, reference_at}
+use Rattle.hm_moves.specs.Places.{IsSizedVersion, ArePlaced, row_count, total, raised, Places, rank_limit, AreRanked, places_with}
 
 -- a version that is published last is published
 pub published_here : (index : Index) (k : Known) → IsPublished (with_one index k) k
@@ -120,27 +120,25 @@ pub place_small : (q rows n i : ℕ) → q < rows → i < n → q * n + i < rows
 place_small q rows n i a b =
     let less : suc q * n ≤ rows * n = mul-le-mul_right n a in omega (arith, suc-mul q n)
 
-pub used_here : (used : ℕ → ℕ) (q : ℕ) (k : Known) → used_with used q (Some k) q ≡ used q + 1
-used_here used q k = rw (eq-eqb q q refl) refl
+pub raised_here : (count : ℕ → ℕ) (q : ℕ) → raised count q q ≡ count q + 1
+raised_here count q = rw (eq-eqb q q refl) refl
 
-pub used_else : (used : ℕ → ℕ) (q r : ℕ) (k : Known) → r ≢ q → used_with used q (Some k) r ≡ used r
-used_else used q r k n = rw (ne_eqb r q n) refl
+pub raised_else : (count : ℕ → ℕ) (q r : ℕ) → r ≢ q → raised count q r ≡ count r
+raised_else count q r n = rw (ne_eqb r q n) refl
 
-total_above : (used : ℕ → ℕ) (q n : ℕ) (k : Known) → n ≤ q
-    → total (used_with used q (Some k)) n ≡ total used n
-total_above used q zero k le = refl
-total_above used q (suc n) k le =
-    let a = total_above used q n k (omega arith) in
-    let b = used_else used q n k (λ e. omega arith) in omega arith
+total_above : (count : ℕ → ℕ) (q n : ℕ) → n ≤ q → total (raised count q) n ≡ total count n
+total_above count q zero le = refl
+total_above count q (suc n) le =
+    let a = total_above count q n (omega arith) in
+    let b = raised_else count q n (λ e. omega arith) in omega arith
 
 -- one more is counted once
-pub total_more : (used : ℕ → ℕ) (q n : ℕ) (k : Known) → q < n
-    → total (used_with used q (Some k)) n ≡ total used n + 1
-total_more used q zero k h = absurd (omega arith)
-total_more used q (suc n) k h = dite (ℕ_discrete n q)
-    (λ e. let a = total_above used q n k (omega arith) in
-    let b : used_with used q (Some k) n ≡ used n + 1 = rw (eq-eqb n q e) refl in omega arith)
-    (λ ne. let a = total_more used q n k (omega arith) in let b = used_else used q n k ne in omega arith)
+pub total_more : (count : ℕ → ℕ) (q n : ℕ) → q < n → total (raised count q) n ≡ total count n + 1
+total_more count q zero h = absurd (omega arith)
+total_more count q (suc n) h = dite (ℕ_discrete n q)
+    (λ e. let a = total_above count q n (omega arith) in
+    let b : raised count q n ≡ count n + 1 = rw (eq-eqb n q e) refl in omega arith)
+    (λ ne. let a = total_more count q n (omega arith) in let b = raised_else count q n ne in omega arith)
 
 -- no more are counted than there is place for
 pub total_small : (used : ℕ → ℕ) (n size : ℕ) → ((q : ℕ) → used q ≤ size) → total used n ≤ n * size
@@ -148,9 +146,40 @@ total_small used zero size h = omega arith
 total_small used (suc n) size h =
     let a = total_small used n size h in let b = h n in omega (arith, suc-mul n size)
 
-module _ (s : Shape) (index : Index) (used : ℕ → ℕ) (row : ℕ) (k : Known) (placed : ArePlaced s index used)
-    (below : row < row_count s) (room : used row < s.versions)
-    (at : k.version.0 ≡ row * s.versions + used row) where
+-- each row was filled at most once more than it was freed, so no more versions were made than the limit
+pub made_small : (s : Shape) (places : Places) (done : ℕ) → ((row : ℕ) → places.used row ≤ s.versions)
+    → ((row : ℕ) → places.made row ≤ s.versions * places.freed row + places.used row)
+    → ((row : ℕ) → places.freed row ≤ done) → total places.made (row_count s) ≤ rank_limit s done
+made_small s places done filled made freed =
+    let all = total_small places.made (row_count s) (s.versions * (done + 1))
+    (λ q. let a = made q in let b = filled q in
+    let c : s.versions * places.freed q ≤ s.versions * done = mul-le-mul_left s.versions (freed q) in
+    let d : s.versions * (done + 1) ≡ s.versions * done + s.versions = omega (arith, mul-suc s.versions done) in
+    omega arith) in
+    let same : row_count s * (s.versions * (done + 1)) ≡ rank_limit s done =
+    sym (mul_assoc (row_count s) s.versions (done + 1)) in omega arith
+
+-- so no rank reaches it
+pub rank_small : (s : Shape) (index : Index) (places : Places) (done : ℕ) → ArePlaced s index places.used
+    → AreRanked s index places done → (k : Known) → IsPublished index k → k.rank < rank_limit s done
+rank_small s index places done placed ranked k is =
+    let a = ranked.ranks k is in
+    let b = made_small s places done placed.filled ranked.made ranked.freed in omega arith
+
+still_some : (index : Index) (k : Known) (v : ℕ) → IsSome (index v) → IsSome (with_one index k v)
+still_some index k v h = go (eqb v k.version.0)
+  where
+    go : (t : Bool) → IsSome (if t then Some k else index v)
+    go true = refl
+    go false = h
+
+module _ (s : Shape) (index : Index) (places : Places) (row : ℕ) (k : Known)
+    (placed : ArePlaced s index places.used)
+    (below : row < row_count s) (room : places.used row < s.versions)
+    (at : k.version.0 ≡ row * s.versions + places.used row) where
+  abbrev used : ℕ → ℕ
+  used = places.used
+
   -- the next place is not used
   pub fresh_place : index k.version.0 ≡ None
   fresh_place = ap index at ∙ placed.unused row (used row) below room (omega arith)
@@ -158,10 +187,35 @@ module _ (s : Shape) (index : Index) (used : ℕ → ℕ) (row : ℕ) (k : Known
   pub fresh_small : IsVersionOf s k.version
   fresh_small = let h = place_small row (row_count s) s.versions (used row) below room in omega arith
 
+  -- by cases of a row
+  by_row : (P : ℕ → Type 0) (r : ℕ) → P row → (r ≢ row → P r) → P r
+  by_row P r here there = dite (ℕ_discrete r row) (λ e. subst P (sym e) here) there
+
+  taken_here : (i : ℕ) → i < raised used row row → IsSome (with_one index k (row * s.versions + i))
+  taken_here i low =
+      let one = raised_here used row in dite (ℕ_discrete i (used row))
+      (λ e. let same : row * s.versions + i ≡ k.version.0 = omega arith in
+      rw (eq-eqb (row * s.versions + i) k.version.0 same) refl)
+      (λ ne. still_some index k (row * s.versions + i) (placed.taken row i below (omega arith)))
+
+  unused_here : (i : ℕ) → i < s.versions → raised used row row ≤ i
+      → with_one index k (row * s.versions + i) ≡ None
+  unused_here i little past =
+      let one = raised_here used row in
+      let apart : row * s.versions + i ≢ k.version.0 = λ is. omega arith in
+      rw (ne_eqb (row * s.versions + i) k.version.0 apart) (placed.unused row i below little (omega arith))
+
+  unused_else : (r i : ℕ) → r ≢ row → r < row_count s → i < s.versions → raised used row r ≤ i
+      → with_one index k (r * s.versions + i) ≡ None
+  unused_else r i ne low little past =
+      let one = raised_else used row r ne in
+      let apart : r * s.versions + i ≢ k.version.0 =
+      λ is. ne (same_row r row s.versions i (used row) little room (is ∙ at)) in
+      rw (ne_eqb (r * s.versions + i) k.version.0 apart) (placed.unused r i low little (omega arith))
+
   -- a version more lies at that place
-  pub placed_more : k.rank < total used (row_count s) + 1 → IsSizedVersion k
-      → ArePlaced s (with_one index k) (used_with used row (Some k))
-  placed_more rank sized = record {
+  pub placed_more : IsSizedVersion k → ArePlaced s (with_one index k) (raised used row)
+  placed_more sized = record {
     sized = λ m there. ⊎_elim
         (λ (t : k ≡ m). subst IsSizedVersion t sized)
         (λ (t : (m.version.0 ≢ k.version.0) × IsPublished index m). placed.sized m t.1)
@@ -170,22 +224,33 @@ module _ (s : Shape) (index : Index) (used : ℕ → ℕ) (row : ℕ) (k : Known
         (λ (t : k ≡ m). subst (λ (x : Known). IsVersionOf s x.version) t fresh_small)
         (λ (t : (m.version.0 ≢ k.version.0) × IsPublished index m). placed.fits m t.1)
         (published_either index k m there);
-    unused = λ r i low little past. dite (ℕ_discrete r row)
-        (λ e. let one : used_with used row (Some k) r ≡ used r + 1 = rw (eq-eqb r row e) refl in
-        let same : used r ≡ used row = ap used e in
-        let here : r * s.versions ≡ row * s.versions = ap (λ (x : ℕ). x * s.versions) e in
-        let apart : r * s.versions + i ≢ k.version.0 = λ is. omega arith in
-        rw (ne_eqb (r * s.versions + i) k.version.0 apart) (placed.unused r i low little (omega arith)))
-        (λ ne. let one = used_else used row r k ne in
-        let apart : r * s.versions + i ≢ k.version.0 =
-        λ is. ne (same_row r row s.versions i (used row) little room (is ∙ at)) in
-        rw (ne_eqb (r * s.versions + i) k.version.0 apart) (placed.unused r i low little (omega arith)));
-    filled = λ r. dite (ℕ_discrete r row)
-        (λ e. let one : used_with used row (Some k) r ≡ used r + 1 = rw (eq-eqb r row e) refl in
-        let same : used r ≡ used row = ap used e in omega arith)
-        (λ ne. let one = used_else used row r k ne in let h = placed.filled r in omega arith);
-    ranks = λ m there. let more = total_more used row (row_count s) k below in ⊎_elim
+    taken = λ r i low. by_row
+        (λ (x : ℕ). i < raised used row x → IsSome (with_one index k (x * s.versions + i))) r
+        (taken_here i)
+        (λ ne little. still_some index k (r * s.versions + i)
+        (placed.taken r i low (let one = raised_else used row r ne in omega arith)));
+    unused = λ r i low little. by_row
+        (λ (x : ℕ). raised used row x ≤ i → with_one index k (x * s.versions + i) ≡ None) r
+        (unused_here i little)
+        (λ ne. unused_else r i ne low little);
+    filled = λ r. by_row (λ (x : ℕ). raised used row x ≤ s.versions) r
+        (let one = raised_here used row in omega arith)
+        (λ ne. let one = raised_else used row r ne in let h = placed.filled r in omega arith);
+  }
+
+  -- and is counted
+  pub ranked_more : (done : ℕ) → AreRanked s index places done → k.rank < total places.made (row_count s) + 1
+      → AreRanked s (with_one index k) (places_with places row (Some k)) done
+  ranked_more done ranked rank = record {
+    ranks = λ m there. let more = total_more places.made row (row_count s) below in ⊎_elim
         (λ (t : k ≡ m). let same : k.rank ≡ m.rank = ap (λ (x : Known). x.rank) t in omega arith)
-        (λ (t : (m.version.0 ≢ k.version.0) × IsPublished index m). let h = placed.ranks m t.1 in omega arith)
+        (λ (t : (m.version.0 ≢ k.version.0) × IsPublished index m). let h = ranked.ranks m t.1 in omega arith)
         (published_either index k m there);
+    made = λ r. by_row
+        (λ (x : ℕ). raised places.made row x ≤ s.versions * places.freed x + raised used row x) r
+        (let a = raised_here places.made row in let b = raised_here used row in
+        let h = ranked.made row in omega arith)
+        (λ ne. let a = raised_else places.made row r ne in let b = raised_else used row r ne in
+        let h = ranked.made r in omega arith);
+    freed = ranked.freed;
   }

@@ -6,13 +6,15 @@ use Rattle.hm_model.specs.History.{store_of, opening_of, starting_count, IsSized
 use Rattle.hm_model.specs.Lawful.{UsageLaws}
 use Rattle.hm_moves.specs.declared.part.Known.{Known}
 use Rattle.hm_moves.specs.declared.part.Site.{Site}
-use Rattle.hm_moves.specs.Chain.{Index, Heap, IsLinked, link_of}
+use Rattle.hm_moves.specs.Chain.{Index, IsLinked, link_of}
+use Rattle.hm_moves.specs.Places.{Heap}
 use Rattle.hm_moves.specs.Good.{Core, Good}
 use Rattle.hm_moves.specs.Fresh.{IsFreshCore}
-use Rattle.hm_moves.specs.Safe.{IsForward, IsSafe, Leads, here, moved, cut, met}
+use Rattle.hm_moves.specs.Safe.{IsForward, IsSafe, Leads, here, moved, let_go, cut, met}
 use Rattle.hm_moves.proofs.Steps.{good_step}
 use Rattle.hm_moves.proofs.Seats.{good_split, good_join}
 use Rattle.hm_moves.proofs.Fresh.{good_fresh}
+use Rattle.hm_moves.proofs.Letting.{good_released}
 
 forward : (index : Index) (store : PlainStore) (k : Known) (w : ℕ) → IsLinked index store k w → IsForward
     index k w
@@ -41,8 +43,10 @@ module _ {U : Type 0} (lawful : U → PlainStore → Type 0) (allowed : U → Pl
               let high = chained.top m k b a (sym same) y in chained.apart k m a b same (omega arith);
         };
         ranks = record {
-          ranks = λ k is. let low = good.heap.placed.ranks k is in omega arith;
+          ranks = λ k is. let low = good.heap.ranked.ranks k is in omega arith;
           rows = good.heap.placed.filled;
+          made = good.heap.ranked.made;
+          freed = good.heap.ranked.freed;
         };
         history = record {
           legal = good.heap.history.legal;
@@ -58,6 +62,8 @@ module _ {U : Type 0} (lawful : U → PlainStore → Type 0) (allowed : U → Pl
     good_always c _ good here = good
     good_always c _ good (moved d id place v p m l at may) =
         good_step lawful allowed laws g d id place v p m (good_always c d good l) at may
+    good_always c _ good (let_go d id place v p o l at) =
+        good_released lawful allowed g d id place v p o (good_always c d good l) at
     good_always c _ good (cut d id v left right l at parts) =
         good_split lawful allowed g d id v (good_always c d good l) at left right parts
     good_always c _ good (met d id other v w l at apart there) =

@@ -9,7 +9,7 @@ use Rattle.hm_model.proofs.HistoryFacts.{calls_of-append}
 use Rattle.hm_moves.specs.declared.part.Site.{Site}
 use Rattle.hm_moves.specs.declared.part.Part.{Part}
 use Rattle.hm_moves.specs.declared.part.View.{View}
-use Rattle.hm_moves.specs.Moving.{view}
+use Rattle.hm_moves.specs.After.{view}
 use Rattle.hm_moves.specs.Good.{Begins, AreBelow, PartIsGood, Core, Good, Carries, split, joined, joined_view, longer, spent_view}
 use Rattle.hm_moves.proofs.Histories.{below_later, none_made, nothing_more, begins_on, begins_longer, left_begins, right_begins, calls_between}
 use Rattle.hm_moves.proofs.Places.{at_set, at_longer, at_later, at_below, at_end, at_either, set_here, set_else}
@@ -188,7 +188,7 @@ module _ {U : Type 0} (lawful : U → PlainStore → Type 0) (allowed : U → Pl
       hands = k.hands;
       calls = record {
         all = k.calls.all;
-        seen = calls_between q.number seen seen' c.heap.history q.mine more begins k.calls.all k.calls.seen;
+        seen = calls_between q.number seen seen' c.heap.history q.calls.mine more begins k.calls.all k.calls.seen;
         opened = begins_on (opening_of g.start) seen seen' k.calls.opened more;
       };
     }
@@ -237,7 +237,7 @@ module _ {U : Type 0} (lawful : U → PlainStore → Type 0) (allowed : U → Pl
       let none : (q : ℕ) → q < g.shape.callers → calls_of q b.rest ≡ [] = λ q small.
       let a = all q small in
       let k = good.parts id a.0 v a.1 record { seat = at; place = a.2 } in
-      let mine : List Entry = a.1.mine in
+      let mine : List Entry = a.1.calls.mine in
       let made : calls_of q c.heap.history ≡ mine = subst (λ (i : ℕ). calls_of i c.heap.history ≡ mine) a.3
       k.calls.all in
       let seen : calls_of q v.seen ≡ mine = subst (λ (i : ℕ). calls_of i v.seen ≡ mine) a.3 k.calls.seen in

@@ -13,15 +13,20 @@ use Rattle.hm_moves.specs.declared.part.Site.{Site}
 use Rattle.hm_moves.specs.declared.part.Part.{Part}
 use Rattle.hm_moves.specs.declared.part.View.{View}
 use Rattle.hm_moves.specs.declared.moving.Move.{Move}
-use Rattle.hm_moves.specs.Chain.{Heap, IsFit, IsPublished, row_count}
-use Rattle.hm_moves.specs.Moving.{word_of, heap_after, entry_of, finds, listed, publishes, part_after, view_after, IsLawfulMove}
-use Rattle.hm_moves.specs.Good.{Begins, HeapIsGood, PartIsGood, Core, Good, Carries, Told, applied}
+use Rattle.hm_moves.specs.Places.{Heap, IsFit, row_count}
+use Rattle.hm_moves.specs.Chain.{IsPublished}
+use Rattle.hm_moves.specs.Acts.{word_of, entry_of, finds, listed, publishes}
+use Rattle.hm_moves.specs.After.{heap_after, part_after, view_after, seen_after}
+use Rattle.hm_moves.specs.Allowed.{IsLawfulMove, done_seen}
+use Rattle.hm_moves.specs.Good.{Begins, HeapIsGood, PartIsGood, Core, Good, Carries, applied}
+use Rattle.hm_moves.specs.Told.{Told}
 use Rattle.hm_moves.proofs.Histories.{IsBy, begins_more, others_only}
-use Rattle.hm_moves.proofs.Placed.{total_small, published_once}
+use Rattle.hm_moves.proofs.Placed.{rank_small, published_once}
 use Rattle.hm_moves.proofs.Heaps.{heap_step}
 use Rattle.hm_moves.proofs.Finding.{entry_by, found_now, new_now}
 use Rattle.hm_moves.proofs.Parts.{own_part, other_part, calls_known, calls_along, begins_after, seen_lawful}
-use Rattle.hm_moves.proofs.Places.{at_set}
+use Rattle.hm_moves.proofs.Held.{some_more}
+use Rattle.hm_moves.proofs.Replaced.{apart_now, by_part, by_seat}
 
 module _ {U : Type 0} (lawful : U → PlainStore → Type 0) (allowed : U → PlainStore → Entry → Type 0)
     (laws : (u : U) → UsageLaws (lawful u) (allowed u)) (c : Core U) (id place : ℕ) (v : View U) (p : Part U)
@@ -45,75 +50,28 @@ module _ {U : Type 0} (lawful : U → PlainStore → Type 0) (allowed : U → Pl
   abbrev new : Part U
   new = part_after p m x (finds c.heap.index m.act x)
 
-  abbrev w : View U
-  w = view_after v place c.heap.history p m x (finds c.heap.index m.act x)
-
   abbrev made : Option Entry
   made = entry_of p.number m.act x
+
+  -- what the seat has seen afterwards
+  abbrev seen_now : List Entry
+  seen_now = seen_after v.seen c.heap.history made
 
   by : IsBy p.number made
   by = entry_by lawful allowed c.heap v.seen p good.heap mine names make m.act may.act x
 
-  -- a view of the machine afterwards is the seat's own, or one from before
-  abbrev EitherView : ℕ → View U → Type 0
-  EitherView j u = ((j ≡ id) × (w ≡ u)) ⊎ ((j ≢ id) × (get_elem? c.views j ≡ some u))
-
-  either_view : (j : ℕ) (u : View U) → get_elem? (applied c id place v p m).views j ≡ some u → EitherView j u
-  either_view j u there = at_set c.views id j w u there
-
-  -- a caller of that seat is the one that moved, or one from before
-  abbrev EitherPart : ℕ → Part U → Type 0
-  EitherPart k q = ((k ≡ place) × (new ≡ q)) ⊎ ((k ≢ place) × (get_elem? v.parts k ≡ some q))
-
-  either_part : (k : ℕ) (u : View U) (q : Part U) → w ≡ u → get_elem? u.parts k ≡ some q → EitherPart k q
-  either_part k u q e there =
-      at_set v.parts place k new q (ap (λ (z : View U). get_elem? z.parts k) e ∙ there)
-
-  -- a caller stood in the same place before, with the same number
-  record Stood (j k n : ℕ) : Type 0 where
-    old_view : View U
-    old : Part U
-    carries : Carries c.views j k old_view old
-    same : old.number ≡ n
-
-  stood : (j k : ℕ) (u : View U) (q : Part U) → Carries (applied c id place v p m).views j k u q → Stood j k
-      q.number
-  stood j k u q t = ⊎_elim
-      (λ (r : (j ≡ id) × (w ≡ u)).
-      let seat : get_elem? c.views j ≡ some v = ap (get_elem? c.views) r.0 ∙ at.seat in ⊎_elim
-      (λ (y : (k ≡ place) × (new ≡ q)). record {
-        old_view = v;
-        old = p;
-        carries = record { seat = seat; place = ap (get_elem? v.parts) y.0 ∙ at.place };
-        same = ap (λ (z : Part U). z.number) y.1;
-      })
-      (λ (y : (k ≢ place) × (get_elem? v.parts k ≡ some q)). record {
-        old_view = v;
-        old = q;
-        carries = record { seat = seat; place = y.1 };
-        same = refl;
-      })
-      (either_part k u q r.1 t.place))
-      (λ (r : (j ≢ id) × (get_elem? c.views j ≡ some u)). record {
-        old_view = u;
-        old = q;
-        carries = record { seat = r.1; place = t.place };
-        same = refl;
-      })
-      (either_view j u t.seat)
-
-  own_after : PartIsGood p.site (heap_after c.heap p m.act x) w.seen new
+  own_after : PartIsGood p.site (heap_after c.heap p m.act x) seen_now new
   own_after = own_part lawful allowed c.heap v.seen p good.heap mine names make begins m may.act x refl
 
   -- another caller of the same seat
   along : (k : ℕ) (q : Part U) → k ≢ place → get_elem? v.parts k ≡ some q
-      → PartIsGood p.site (heap_after c.heap p m.act x) w.seen q
+      → PartIsGood p.site (heap_after c.heap p m.act x) seen_now q
   along k q ne there =
       let was : Carries c.views id k v q = record { seat = at.seat; place = there } in
       let theirs = good.parts id k v q was in
       let apart : q.number ≢ p.number = λ e. ne (good.apart id k id place v v q p was at e).1 in
       other_part lawful allowed c.heap v.seen p good.heap mine names make v.seen q apart theirs m.act may.act
-      x w.seen
+      x seen_now
       (calls_along lawful allowed c.heap v.seen p good.heap mine names make v.seen q apart theirs made by
       begins)
 
@@ -130,38 +88,26 @@ module _ {U : Type 0} (lawful : U → PlainStore → Type 0) (allowed : U → Pl
   own_step : Good lawful allowed p.site (applied c id place v p m)
   own_step = record {
     heap = heap_step lawful allowed laws c.heap v.seen p good.heap mine m.act may.act x refl;
-    seen = λ j u there. ⊎_elim
-        (λ (t : (j ≡ id) × (w ≡ u)). subst
-        (λ (z : View U). Begins z.seen (heap_after c.heap p m.act x).history) t.1
-        (begins_after lawful allowed c.heap v.seen p good.heap mine names make begins made))
-        (λ (t : (j ≢ id) × (get_elem? c.views j ≡ some u)).
-        begins_more u.seen c.heap.history (listed made) (good.seen j u t.1))
-        (either_view j u there);
-    parts = λ j k u q s. ⊎_elim
-        (λ (t : (j ≡ id) × (w ≡ u)).
-        subst (λ (z : View U). PartIsGood p.site (heap_after c.heap p m.act x) z.seen q) t.1 (⊎_elim
-        (λ (y : (k ≡ place) × (new ≡ q)).
-        subst (PartIsGood p.site (heap_after c.heap p m.act x) w.seen) y.1 own_after)
-        (λ (y : (k ≢ place) × (get_elem? v.parts k ≡ some q)). along k q y.0 y.1)
-        (either_part k u q t.1 s.place)))
-        (λ (t : (j ≢ id) × (get_elem? c.views j ≡ some u)).
-        beside j k u q t.0 record { seat = t.1; place = s.place })
-        (either_view j u s.seat);
-    apart = λ j k i n u u' q q' s s' same.
-        let a = stood j k u q s in
-        let b = stood i n u' q' s' in
-        good.apart j k i n a.old_view b.old_view a.old b.old a.carries b.carries
-        (a.same ∙ (same ∙ sym b.same));
+    seen = by_seat c.views id place v p new seen_now at refl
+        (λ l. Begins l (heap_after c.heap p m.act x).history)
+        (begins_after lawful allowed c.heap v.seen p good.heap mine names make begins made)
+        (λ j u there. begins_more u.seen c.heap.history (listed made) (good.seen j u there));
+    parts = by_part c.views id place v p new seen_now at refl
+        (PartIsGood p.site (heap_after c.heap p m.act x)) own_after along beside;
+    apart = apart_now c.views id place v p new seen_now at refl good.apart;
   }
 
-  fit_at : (h : Heap) → HeapIsGood lawful allowed p.site h → (o : Option Known) → IfSome o
-      (IsPublished h.index)
-      → IfSome o (IsFit p.site.shape)
-  fit_at h kept None is = tt
-  fit_at h kept (Some k) is =
-      let a = kept.placed.ranks k is in
-      let b = total_small h.used (row_count p.site.shape) p.site.shape.versions kept.placed.filled in
-      record { version = kept.placed.fits k is; rank = omega arith; sized = kept.placed.sized k is }
+  fit_at : (h : Heap) → HeapIsGood lawful allowed p.site h → (o : Option Known)
+      → IfSome o (IsPublished h.index) → IfSome o (IsFit p.site.shape (done_seen p))
+  fit_at h kept o is = some_more (IsPublished h.index) (IsFit p.site.shape (done_seen p))
+      (λ k there. record {
+        version = kept.placed.fits k there;
+        rank = rank_small p.site.shape h.index h.places 0 kept.placed kept.ranked k there;
+        sized = kept.placed.sized k there;
+      }) o is
+
+  abbrev w : View U
+  w = view_after v place c.heap.history p m x (finds c.heap.index m.act x)
 
   own_told : Told lawful allowed p.site m v place p x w
   own_told =
@@ -169,7 +115,7 @@ module _ {U : Type 0} (lawful : U → PlainStore → Type 0) (allowed : U → Pl
       record {
         between = begins.rest;
         found = finds c.heap.index m.act x;
-        others = others_only p.number v.seen c.heap.history p.mine begins.rest begins.is mine.calls.all
+        others = others_only p.number v.seen c.heap.history p.calls.mine begins.rest begins.is mine.calls.all
             mine.calls.seen;
         what = found.0;
         fit = fit_at c.heap good.heap (finds c.heap.index m.act x) found.1;

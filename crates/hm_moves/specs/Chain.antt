@@ -1,4 +1,4 @@
--- Versions in the words of the Table: which are published, and what their words say.
+-- Versions in the words of the Table: which are published, what their words say, and how links chain them.
 use Rattle.std.specs.Prelude.{◌≡◌, ℕ, zero, suc, ◌+◌, ◌*◌, ◌<◌, ◌≤◌, ◌==◌, List, slice_index, slice_index_or, Option, Some, None, if◌then◌else◌}
 use Rattle.hm_shape.specs.declared.shape.Shape.{Shape}
 use Rattle.hm_shape.specs.declared.version.TheConstants.{FIRST_NUMBER, FIRST_REFERENCE, LINK, STAMP}
@@ -77,43 +77,3 @@ pub record AreChained (s : Shape) (words : List ℕ) (index : Index) (store : Pl
       → link_of s words k ≡ 0 → m.rank ≤ k.rank
   pub apart : (k m : Known) → IsPublished index k → IsPublished index m → m.name ≡ k.name
       → m.rank ≡ k.rank → m ≡ k
-
--- the regions of all callers lie in rows, one behind another
-abbrev pub row_count : Shape → ℕ
-row_count s = s.callers * s.regions
-
--- a region of a caller is one of these rows
-abbrev pub row_of : Shape → ℕ → ℕ → ℕ
-row_of s q region = q * s.regions + region
-
--- the first rows have so many versions that were published
-abbrev pub total : (ℕ → ℕ) → ℕ → ℕ
-total used zero = 0
-total used (suc n) = total used n + used n
-
--- a version is sized where its stamp is at most its rank, and its contents have their lengths
-pub record IsSizedVersion (k : Known) : Type 0 where
-  pub stamp : k.contents.stamp ≤ k.rank
-  pub contents : IsSized k.contents.refs k.contents.numbers
-
--- a version fits a heap where it has such a number, and its rank is below the number of all versions
-pub record IsFit (s : Shape) (k : Known) : Type 0 where
-  pub version : IsVersionOf s k.version
-  pub rank : k.rank < version_count s
-  pub sized : IsSizedVersion k
-
--- published versions lie in the first places of each region, and no rank passes their number
-pub record ArePlaced (s : Shape) (index : Index) (used : ℕ → ℕ) : Type 0 where
-  pub fits : (k : Known) → IsPublished index k → IsVersionOf s k.version
-  pub unused : (row i : ℕ) → row < row_count s → i < s.versions → used row ≤ i
-      → index (row * s.versions + i) ≡ None
-  pub filled : (row : ℕ) → used row ≤ s.versions
-  pub ranks : (k : Known) → IsPublished index k → k.rank < total used (row_count s)
-  pub sized : (k : Known) → IsPublished index k → IsSizedVersion k
-
--- a heap is its words, what it knows of versions, how many places of each row are used, and its history
-pub record Heap : Type 0 where
-  pub words : List ℕ
-  pub index : Index
-  pub used : ℕ → ℕ
-  pub history : List Entry

@@ -1,10 +1,10 @@
 -- The ends of chains, and how many links lead there.
-use Rattle.std.specs.Prelude.{◌≡◌, ℕ, zero, suc, ◌+◌, ◌*◌, ◌≤◌, Some}
+use Rattle.std.specs.Prelude.{◌≡◌, ℕ, zero, suc, ◌≤◌, Some}
 use Rattle.hm_shape.specs.declared.shape.Shape.{Shape}
-use Rattle.hm_shape.specs.Versions.{version_count}
 use Rattle.hm_shape.specs.Words.{naming_word}
 use Rattle.hm_moves.specs.declared.part.Known.{Known}
-use Rattle.hm_moves.specs.Chain.{Heap, IsPublished, link_of}
+use Rattle.hm_moves.specs.Chain.{IsPublished, link_of}
+use Rattle.hm_moves.specs.Places.{Heap, rank_limit}
 
 -- n links lead from one version to another, each to the published version that it names
 abbrev pub Links : Shape → Heap → ℕ → Known → Known → Type 0
@@ -19,12 +19,8 @@ pub record EndsAfter (s : Shape) (h : Heap) (k : Known) (n : ℕ) : Type 0 where
   pub links : Links s h n k last
   pub none : link_of s h.words last ≡ 0
 
--- so many links: the number of all versions, times one more than the number of cycles that are done
-abbrev pub most_links : Shape → ℕ → ℕ
-most_links s done = version_count s * (done + 1)
-
--- behind each published version its chain ends, after at most so many links
+-- behind each published version its chain ends, after at most as many links as ranks are below the limit
 pub record ChainsEnd (s : Shape) (h : Heap) (done : ℕ) : Type 0 where
   pub ends : (k : Known) → IsPublished h.index k → (n : ℕ) × EndsAfter s h k n
   pub few : (k : Known) (n : ℕ) → IsPublished h.index k → EndsAfter s h k n
-      → n ≤ most_links s done
+      → n ≤ rank_limit s done

@@ -12,8 +12,9 @@ use Rattle.hm_moves.specs.declared.part.Known.{Known}
 use Rattle.hm_moves.specs.declared.part.Site.{Site}
 use Rattle.hm_moves.specs.declared.part.Part.{Part}
 use Rattle.hm_moves.specs.declared.part.View.{View}
-use Rattle.hm_moves.specs.Chain.{Index, Heap, IsPublished, AreTrue, link_of}
-use Rattle.hm_moves.specs.Moving.{nothing_written}
+use Rattle.hm_moves.specs.Chain.{Index, IsPublished, AreTrue, link_of}
+use Rattle.hm_moves.specs.Places.{Heap, HasHead, Places}
+use Rattle.hm_moves.specs.After.{nothing_written}
 use Rattle.hm_moves.specs.Good.{Core, Carries}
 
 -- a starting object is known by its number, which is that of its version too
@@ -50,11 +51,21 @@ fresh_index start v = slice_get (all_known start) v
 abbrev pub fresh_used : Start → ℕ → ℕ
 fresh_used start row = if row == 0 then starting_count start else 0
 
--- a fresh heap has their words, and no links
+-- nothing was freed yet, and each caller writes into its first region
+abbrev pub fresh_places : Start → Places
+fresh_places start = record {
+  used = fresh_used start;
+  made = fresh_used start;
+  freed = λ row. 0;
+  to = λ q. 0;
+}
+
+-- a fresh heap has the head words, theirs, and no links
 pub record IsFreshHeap {U : Type 0} (g : Site U) (h : Heap) : Type 0 where
   pub wide : length h.words ≡ word_count g.shape
   pub index : h.index ≡ fresh_index g.start
-  pub used : h.used ≡ fresh_used g.start
+  pub places : h.places ≡ fresh_places g.start
+  pub head : HasHead g.shape h.places.to h.words
   pub history : h.history ≡ opening_of g.start
   pub contents : AreTrue g.shape h.words h.index
   pub links : (k : Known) → IsPublished h.index k → link_of g.shape h.words k ≡ 0
@@ -72,9 +83,11 @@ module _ {U : Type 0} where
     };
     hands = record {
       held = common_known g.start ∷ [];
-      published = if q == 0 then all_known g.start else [];
+      own = if q == 0 then all_known g.start else [];
+      left = [];
     };
-    mine = calls_of q (opening_of g.start);
+    calls = record { mine = calls_of q (opening_of g.start) };
+    cycle = record {};
   }
 
   -- a fresh machine has a fresh heap, and views of fresh callers, none of them carried twice

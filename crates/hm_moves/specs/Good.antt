@@ -1,17 +1,17 @@
--- What holds of the machine between any two moves, and what a move tells its caller.
-use Rattle.std.specs.Prelude.{◌≡◌, ℕ, ◌<◌, true, List, [], ◌∷◌, ◌++◌, length, slice_index, slice_set, Option, Some, None, IfSome, Contains, All, nat_lt, if◌then◌else◌}
+-- What holds of the machine between any two moves, and how seats are split and joined.
+use Rattle.std.specs.Prelude.{◌≡◌, ℕ, ◌<◌, true, false, List, [], ◌∷◌, ◌++◌, length, slice_index, slice_set, Option, Contains, All, nat_lt, if◌then◌else◌}
+use Rattle.std.specs.List.{list_any}
 use mathlib.Core.Option.{some}
 use lib.ListN.{get_elem?}
 use Rattle.hm_shape.specs.declared.shape.Shape.{Shape}
 use Rattle.hm_shape.specs.declared.version.TheConstants.{VERSION_WORDS}
-use Rattle.hm_shape.specs.Versions.{IsAt, version_at}
-use Rattle.hm_shape.specs.Words.{word_at, word_count, naming_word}
-use Rattle.hm_model.specs.declared.object.Name.{Name}
+use Rattle.hm_shape.specs.Versions.{version_at}
+use Rattle.hm_shape.specs.Words.{word_at, word_count}
 use Rattle.hm_model.specs.declared.object.Start.{Start}
 use Rattle.hm_model.specs.declared.entry.Entry.{Entry}
 use Rattle.hm_model.specs.Store.{PlainStore}
 use Rattle.hm_model.specs.Effect.{caller_of}
-use Rattle.hm_model.specs.History.{store_of, calls_of, AreOthers, opening_of}
+use Rattle.hm_model.specs.History.{store_of, calls_of, opening_of}
 use Rattle.hm_model.specs.Lawful.{IsLawful}
 use Rattle.hm_moves.specs.declared.part.Known.{Known}
 use Rattle.hm_moves.specs.declared.part.Site.{Site}
@@ -19,11 +19,12 @@ use Rattle.hm_moves.specs.declared.part.Draft.{Draft}
 use Rattle.hm_moves.specs.declared.part.Hands.{Hands}
 use Rattle.hm_moves.specs.declared.part.Part.{Part}
 use Rattle.hm_moves.specs.declared.part.View.{View}
-use Rattle.hm_moves.specs.declared.moving.Act.{Act}
-use Rattle.hm_moves.specs.declared.moving.Act.TheVariants.{LoadStamp, LoadReference, LoadNumber, LoadLink, StoreOwn, Publish, LinkStore}
 use Rattle.hm_moves.specs.declared.moving.Move.{Move}
-use Rattle.hm_moves.specs.Chain.{Index, Heap, IsPublished, ArePlaced, IsFit, AreChained, AreTrue, reference_at, row_of}
-use Rattle.hm_moves.specs.Moving.{word_of, publishes, finds, heap_after, part_after, view, view_after, is_naming, IsWritten, Names}
+use Rattle.hm_moves.specs.Chain.{Index, IsPublished, AreChained, AreTrue}
+use Rattle.hm_moves.specs.Places.{Heap, ArePlaced, AreRanked, HasHead, IsOwn, row_of}
+use Rattle.hm_moves.specs.Acts.{word_of, finds}
+use Rattle.hm_moves.specs.After.{heap_after, is_naming, is_version, letting, view, view_after, view_letting}
+use Rattle.hm_moves.specs.Allowed.{IsWritten, Names}
 
 -- a list begins with another
 pub record Begins (xs ys : List Entry) : Type 0 where
@@ -38,43 +39,33 @@ AreBelow n es = All (λ e. caller_of e < n) es
 abbrev pub longer : List Entry → List Entry → List Entry
 longer xs ys = if nat_lt (length xs) (length ys) then ys else xs
 
--- a word is a reference, and `found` the version that it names
-abbrev pub IsReference : ℕ → Option Known → Option Name → Type 0
-IsReference x None r = (x ≡ 0) × (r ≡ None)
-IsReference x (Some k) r = (x ≡ naming_word (Some k.version)) × (r ≡ Some k.name)
+-- no two of these versions have one number
+abbrev pub AreApart : List Known → Type 0
+AreApart [] = Unit {0}
+AreApart (k ∷ ks) = (list_any (is_version k) ks ≡ false) × AreApart ks
 
--- a word is the link of a version, and `found` the version that it names, of the same object and a greater rank
-abbrev pub IsLink : Known → ℕ → Option Known → Type 0
-IsLink at x None = x ≡ 0
-IsLink at x (Some k) =
-    (x ≡ naming_word (Some k.version)) × (k.name ≡ at.name) × (at.rank < k.rank)
+-- what a caller has published is listed, in order of publishing: first what it has left behind
+abbrev pub published_of : Hands → List Known
+published_of hands = hands.left ++ hands.own
 
--- what an act found is what is known of the version
-abbrev pub Found : Act → ℕ → Option Known → Type 0
-Found (LoadStamp at) x found = (x ≡ at.contents.stamp) × (found ≡ None)
-Found (LoadReference at i) x found = IsReference x found (reference_at at.contents i)
-Found (LoadNumber at i) x found = (x ≡ slice_index at.contents.numbers i) × (found ≡ None)
-Found (LoadLink at want) x found = IsLink at x found
-Found (StoreOwn i word) x found = found ≡ None
-Found (Publish fresh) x found = found ≡ None
-Found (LinkStore at fresh entry) x found = IsLink at x found
-
--- a caller's draft lies at the first unused place, and its written words are in the Table and name held versions
+-- a caller's draft lies at the first unused place of its To region; its written words are in the Table, and name
+-- held versions
 pub record IsDrafting (s : Shape) (q : ℕ) (d : Draft) (held : List Known) (h : Heap)
     : Type 0 where
   pub region : d.region < s.regions
-  pub used : d.used ≡ h.used (row_of s q d.region)
+  pub to : d.region ≡ h.places.to q
+  pub used : d.used ≡ h.places.used (row_of s q d.region)
   pub wide : length d.written ≡ VERSION_WORDS
   pub written : d.used < s.versions → (j w : ℕ) → IsWritten d.written j w
       → slice_index h.words (word_at s (version_at s q d.region d.used) j) ≡ w
   pub named : (j w : ℕ) → is_naming j ≡ true → IsWritten d.written j w → Names held w
 
--- what a caller may look into is published, and it lists all published versions of its own regions
+-- what a caller holds is published; and it lists just the published versions of its own regions, each once
 pub record AreIndexed (s : Shape) (q : ℕ) (index : Index) (hands : Hands) : Type 0 where
   pub held : (k : Known) → Contains hands.held k → IsPublished index k
-  pub published : (k : Known) → Contains hands.published k → IsPublished index k
-  pub own : (k : Known) (region place : ℕ) → IsPublished index k
-      → IsAt s k.version q region place → Contains hands.published k
+  pub own : (k : Known) → Contains (published_of hands) k → IsOwn s q index k
+  pub all : (k : Known) → IsOwn s q index k → Contains (published_of hands) k
+  pub once : AreApart (published_of hands)
 
 -- a caller's entries are its calls in the history, and all of them are seen, behind the opening
 pub record HasCalls (start : Start) (q : ℕ) (mine history known : List Entry) : Type 0 where
@@ -86,6 +77,11 @@ pub record HasCalls (start : Start) (q : ℕ) (mine history known : List Entry) 
 pub record Core (U : Type 0) : Type 0 where
   pub heap : Heap
   pub views : List (View U)
+
+-- words and views depict a machine where they are those of its heap and its seats
+pub record Depicts {U : Type 0} (words : List ℕ) (views : List (View U)) (c : Core U) : Type 0 where
+  pub words_are : c.heap.words ≡ words
+  pub views_are : c.views ≡ views
 
 module _ {U : Type 0} where
   -- a seat has a view, which carries a caller at a place
@@ -99,7 +95,7 @@ module _ {U : Type 0} where
     pub number : p.number < g.shape.callers
     pub draft : IsDrafting g.shape p.number p.draft p.hands.held h
     pub hands : AreIndexed g.shape p.number h.index p.hands
-    pub calls : HasCalls g.start p.number p.mine h.history seen
+    pub calls : HasCalls g.start p.number p.calls.mine h.history seen
 
   -- the machine after a move of the seat `id`, by its caller at a place
   abbrev pub applied : Core U → ℕ → ℕ → View U → Part U → Move → Core U
@@ -111,11 +107,18 @@ module _ {U : Type 0} where
             (view_after v place c.heap.history p m x (finds c.heap.index m.act x));
       }
 
+  -- the machine after a caller of the seat `id`, at a place, let go of a version
+  abbrev pub released : Core U → ℕ → ℕ → View U → Part U → Option Known → Core U
+  released c id place v p let_go =
+      record c { views = slice_set c.views id (view_letting v place p let_go) }
+
   module _ (lawful : U → PlainStore → Type 0) (allowed : U → PlainStore → Entry → Type 0) where
-    -- what is kept of the heap
+    -- what is kept of the heap, while no cycle is done
     pub record HeapIsGood (g : Site U) (h : Heap) : Type 0 where
       pub wide : length h.words ≡ word_count g.shape
-      pub placed : ArePlaced g.shape h.index h.used
+      pub head : HasHead g.shape h.places.to h.words
+      pub placed : ArePlaced g.shape h.index h.places.used
+      pub ranked : AreRanked g.shape h.index h.places 0
       pub contents : AreTrue g.shape h.words h.index
       pub chained : AreChained g.shape h.words h.index (store_of h.history)
       pub history : IsLawful (lawful g.usage) (allowed g.usage) g.start h.history
@@ -131,27 +134,9 @@ module _ {U : Type 0} where
       pub apart : (j k m n : ℕ) (v w : View U) (p q : Part U) → Carries c.views j k v p
           → Carries c.views m n w q → p.number ≡ q.number → (j ≡ m) × (k ≡ n)
 
-    -- what a move tells its caller, who does not see the machine: x is the word that it found
-    pub record Told (g : Site U) (m : Move) (v : View U) (place : ℕ) (p : Part U) (x : ℕ)
-        (w : View U) : Type 0 where
-      -- what others made since, and the version that the word named
-      pub between : List Entry
-      pub found : Option Known
-      pub others : AreOthers p.number between
-      pub what : Found m.act x found
-      pub fit : IfSome found (IsFit g.shape)
-      pub fit_new : IfSome (publishes m.act x) (IsFit g.shape)
-      -- held versions of one number are one
-      pub once : (k n : Known) → Contains (part_after p m x found).hands.held k
-          → Contains (part_after p m x found).hands.held n
-          → n.version.0 ≡ k.version.0 → n ≡ k
-      pub is : w ≡ view_after v place (v.seen ++ between) p m x found
-      pub history : IsLawful (lawful g.usage) (allowed g.usage) g.start w.seen
-
   -- a seat is cut in two: it keeps `left` of its parts, and the new one has `right`
   abbrev pub split : Core U → ℕ → View U → List (Part U) → List (Part U) → Core U
-  split c id v left right = record {
-    heap = c.heap;
+  split c id v left right = record c {
     views = slice_set c.views id (view v.seen left) ++ view v.seen right ∷ [];
   }
 
@@ -165,7 +150,6 @@ module _ {U : Type 0} where
 
   -- the machine after the seat `id` took the parts of another
   abbrev pub joined : Core U → ℕ → View U → ℕ → View U → Core U
-  joined c id v other w = record {
-    heap = c.heap;
+  joined c id v other w = record c {
     views = slice_set (slice_set c.views id (joined_view v w)) other spent_view;
   }

@@ -1,6 +1,10 @@
 pub mod Chain
-pub mod Moving
+pub mod Places
+pub mod Acts
+pub mod After
+pub mod Allowed
 pub mod Good
+pub mod Told
 pub mod Fresh
 pub mod Safe
 pub mod Ends

@@ -37,5 +37,5 @@
 mod moving;
 mod part;
 
-pub use moving::{Act, Move};
-pub use part::{Draft, Hands, Known, MOST_HELD, Part, Site, View};
+pub use moving::{Act, Build, Look, Move};
+pub use part::{Calls, Cycle, Draft, Hands, Known, MOST_HELD, Part, Site, View};

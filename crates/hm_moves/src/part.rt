@@ -28,7 +28,7 @@ pub struct Known {
 
 /// The next version of a caller, which it writes before it publishes it.
 pub struct Draft {
-    /// The region in which it lies.
+    /// The caller's To region, in which it lies.
     pub region: u32,
     /// How many places of that region are used. The next version lies at the first place that is not.
     pub used: u32,
@@ -36,13 +36,24 @@ pub struct Draft {
     pub written: LinkedList<Option<u64>>,
 }
 
-/// The versions that a caller may look into.
+/// The versions that a caller may look into, and those of its regions left behind.
 pub struct Hands {
     /// Those that it holds, each once, in order of holding.
     pub held: LinkedList<Known>,
-    /// Those that it published, in order of publishing.
-    pub published: LinkedList<Known>,
+    /// Those that it published in its To and Old regions, in order of publishing.
+    pub own: LinkedList<Known>,
+    /// Those that it published before, in regions that it has left behind, in order of publishing.
+    pub left: LinkedList<Known>,
 }
+
+/// What a caller has called.
+pub struct Calls {
+    /// Its entries, in order.
+    pub mine: LinkedList<Entry>,
+}
+
+/// What a caller knows of the collector's cycle: nothing until there is a collector.
+pub struct Cycle {}
 
 /// What is kept of one caller.
 pub struct Part<U> {
@@ -51,8 +62,8 @@ pub struct Part<U> {
     pub number: u32,
     pub draft: Draft,
     pub hands: Hands,
-    /// Its entries, in order.
-    pub mine: LinkedList<Entry>,
+    pub calls: Calls,
+    pub cycle: Cycle,
 }
 
 /// What a seat knows: the history that it has seen, and a part for each caller that it carries.

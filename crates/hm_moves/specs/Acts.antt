@@ -1,0 +1,128 @@
+-- Acts of a caller, by groups: the word that each moves, and what it makes, publishes and finds.
+use Rattle.std.specs.Prelude.{◌≡◌, ℕ, zero, suc, ◌+◌, ◌-◌, ◌==◌, nat_lt, List, [], ◌∷◌, Option, Some, None, if◌then◌else◌}
+use Rattle.hm_shape.specs.declared.version.Version.{Version}
+use Rattle.hm_shape.specs.declared.version.TheConstants.{FIRST_NUMBER, FIRST_REFERENCE, LINK, STAMP}
+use Rattle.hm_shape.specs.Versions.{version_at}
+use Rattle.hm_shape.specs.Words.{word_at, naming_word}
+use Rattle.hm_model.specs.declared.entry.Entry.{Entry}
+use Rattle.hm_model.specs.declared.entry.Entry.TheVariants.{Create}
+use Rattle.hm_moves.specs.declared.part.Known.{Known}
+use Rattle.hm_moves.specs.declared.part.Part.{Part}
+use Rattle.hm_moves.specs.declared.moving.Look.{Look}
+use Rattle.hm_moves.specs.declared.moving.Look.TheVariants.{LoadStamp, LoadReference, LoadNumber, LoadLink}
+use Rattle.hm_moves.specs.declared.moving.Build.{Build}
+use Rattle.hm_moves.specs.declared.moving.Build.TheVariants.{StoreOwn, Publish, LinkStore}
+use Rattle.hm_moves.specs.declared.moving.Act.{Act}
+use Rattle.hm_moves.specs.declared.moving.Act.TheVariants.{Looks, Builds}
+use Rattle.hm_moves.specs.Chain.{Index, lookup}
+
+-- one thing, or none, as a list
+abbrev pub listed : {A : Type 0} → Option A → List A
+listed None = []
+listed (Some a) = a ∷ []
+
+-- some things come only where 0 was found
+abbrev pub where_zero : {A : Type 0} → Option A → ℕ → Option A
+where_zero None x = None
+where_zero (Some a) zero = Some a
+where_zero (Some a) (suc v) = None
+
+-- a word of a version is loaded as its stamp, a reference or a number
+abbrev pub field_look : Known → ℕ → Look
+field_look at i =
+    if i == STAMP then LoadStamp at
+    else if nat_lt i FIRST_NUMBER then LoadReference at (i - FIRST_REFERENCE)
+    else LoadNumber at (i - FIRST_NUMBER)
+
+-- a load is of a version
+abbrev pub looked_at : Look → Known
+looked_at (LoadStamp at) = at
+looked_at (LoadReference at i) = at
+looked_at (LoadNumber at i) = at
+looked_at (LoadLink at want) = at
+
+-- and of one of its words
+abbrev pub looked_word : Look → ℕ
+looked_word (LoadStamp at) = STAMP
+looked_word (LoadReference at i) = FIRST_REFERENCE + i
+looked_word (LoadNumber at i) = FIRST_NUMBER + i
+looked_word (LoadLink at want) = LINK
+
+-- a load of a link may want an entry
+abbrev pub want_of : Look → Option Entry
+want_of (LoadStamp at) = None
+want_of (LoadReference at i) = None
+want_of (LoadNumber at i) = None
+want_of (LoadLink at want) = want
+
+-- a load finds the version that the word names, where the word may name one
+abbrev pub look_finds : Index → Look → ℕ → Option Known
+look_finds index (LoadStamp at) x = None
+look_finds index (LoadReference at i) x = lookup index x
+look_finds index (LoadNumber at i) x = None
+look_finds index (LoadLink at want) x = lookup index x
+
+-- a caller's next version lies at the first place of its To region that is not used
+abbrev pub next_version : {U : Type 0} → Part U → Version
+next_version p = version_at p.site.shape p.number p.draft.region p.draft.used
+
+-- a step that builds moves a word of the next version, or the link on which that is hung
+abbrev pub build_word : {U : Type 0} → Part U → Build → ℕ
+build_word p (StoreOwn i word) = word_at p.site.shape (next_version p) i
+build_word p (Publish fresh) = word_at p.site.shape (next_version p) LINK
+build_word p (LinkStore at fresh entry) = word_at p.site.shape at.version LINK
+
+-- an exchange puts the fresh version into a link of 0, and leaves any other
+abbrev pub link_after : Known → ℕ → ℕ
+link_after fresh zero = naming_word (Some fresh.version)
+link_after fresh (suc v) = suc v
+
+-- the word that a step builds becomes this, where x was found
+abbrev pub built_word : Build → ℕ → ℕ
+built_word (StoreOwn i word) x = word
+built_word (Publish fresh) x = 0
+built_word (LinkStore at fresh entry) x = link_after fresh x
+
+-- a caller q makes this entry by a step that builds
+abbrev pub built_entry : ℕ → Build → ℕ → Option Entry
+built_entry q (StoreOwn i word) x = None
+built_entry q (Publish fresh) x =
+    Some (Create q fresh.name fresh.contents.refs fresh.contents.numbers)
+built_entry q (LinkStore at fresh entry) x = where_zero entry x
+
+-- such a step publishes this version
+abbrev pub built_version : Build → ℕ → Option Known
+built_version (StoreOwn i word) x = None
+built_version (Publish fresh) x = Some fresh
+built_version (LinkStore at fresh entry) x = where_zero (Some fresh) x
+
+-- an exchange finds the version that the link named
+abbrev pub build_finds : Index → Build → ℕ → Option Known
+build_finds index (StoreOwn i word) x = None
+build_finds index (Publish fresh) x = None
+build_finds index (LinkStore at fresh entry) x = lookup index x
+
+-- each act moves one word
+abbrev pub word_of : {U : Type 0} → Part U → Act → ℕ
+word_of p (Looks l) = word_at p.site.shape (looked_at l).version (looked_word l)
+word_of p (Builds b) = build_word p b
+
+-- that word becomes this, where x was found
+abbrev pub becomes : Act → ℕ → ℕ
+becomes (Looks l) x = x
+becomes (Builds b) x = built_word b x
+
+-- a caller q makes this entry by its act
+abbrev pub entry_of : ℕ → Act → ℕ → Option Entry
+entry_of q (Looks l) x = where_zero (want_of l) x
+entry_of q (Builds b) x = built_entry q b x
+
+-- the act publishes this version
+abbrev pub publishes : Act → ℕ → Option Known
+publishes (Looks l) x = None
+publishes (Builds b) x = built_version b x
+
+-- the act finds this version
+abbrev pub finds : Index → Act → ℕ → Option Known
+finds index (Looks l) x = look_finds index l x
+finds index (Builds b) x = build_finds index b x
