@@ -6,8 +6,9 @@ use Rattle.hm_model.specs.declared.entry.Entry.{Entry}
 use Rattle.hm_model.specs.Store.{PlainStore}
 use Rattle.hm_moves.specs.declared.part.Known.{Known}
 use Rattle.hm_moves.specs.declared.moving.Act.{Act}
-use Rattle.hm_moves.specs.declared.moving.Act.TheVariants.{StoreOwn}
-use Rattle.hm_moves.specs.Moving.{HasRoom, IsWritten}
+use Rattle.hm_moves.specs.declared.moving.Act.TheVariants.{Looks, Builds}
+use Rattle.hm_moves.specs.declared.moving.Build.TheVariants.{StoreOwn}
+use Rattle.hm_moves.specs.Allowed.{HasRoom, IsWritten}
 use Rattle.hm_cells.specs.Facts.{Facts, Fits, IsAtRest, IsSound, Made}
 use Rattle.hm_cells.specs.Calls.{IsWhole, Takes, taken}
 use Rattle.hm_cells.proofs.Stepped.{held_few, written_here, written_stays}
@@ -33,14 +34,14 @@ module _ {U : Type 0} (lawful : U → PlainStore → Type 0) (allowed : U → Pl
   }
 
   module _ (s t : Facts U) (i word : ℕ) (sound : IsSound lawful allowed s) (after : IsSound lawful allowed t)
-      (took : Takes lawful allowed s (StoreOwn i word) word t) where
+      (took : Takes lawful allowed s (Builds (StoreOwn i word)) word t) where
     -- a store of an own word takes nothing into the hand, and no room
     pub rest_still : IsAtRest s → IsAtRest t
     rest_still rest = record {
       hand = ap (λ (f : Facts U). f.hand) took.is
-          ∙ (ap (λ (o : Option Known). s.hand ++ taken (StoreOwn i word) word o) took.what
+          ∙ (ap (λ (o : Option Known). s.hand ++ taken (Builds (StoreOwn i word)) word o) took.what
           ∙ (append-nil s.hand ∙ rest.hand));
-      few = held_few lawful allowed s t (StoreOwn i word) word sound after took 400 rest.few
+      few = held_few lawful allowed s t (Builds (StoreOwn i word)) word sound after took 400 rest.few
           (let h = ap length rest.hand in omega arith);
     }
 
@@ -52,10 +53,10 @@ module _ {U : Type 0} (lawful : U → PlainStore → Type 0) (allowed : U → Pl
     one_more zero_word low h j some small = dite (ℕ_discrete j i)
         (λ e. subst (λ (k : ℕ). IsWritten t.part.draft.written k 0) (sym e)
         (subst (IsWritten t.part.draft.written i) zero_word
-        (written_here lawful allowed s t (StoreOwn i word) word sound after took i word refl low (inr
+        (written_here lawful allowed s t (Builds (StoreOwn i word)) word sound after took i word refl low (inr
         (inl zero_word)))))
-        (λ ne. written_stays lawful allowed s t (StoreOwn i word) word sound after took j 0 refl
+        (λ ne. written_stays lawful allowed s t (Builds (StoreOwn i word)) word sound after took j 0 refl
         (λ k w e same. ne (sym same ∙ own k w e)) (h j some (omega arith)) (inr (inl refl)))
       where
-        own : (k w : ℕ) → StoreOwn i word ≡ StoreOwn k w → k ≡ i
+        own : (k w : ℕ) → Builds (StoreOwn i word) ≡ Builds (StoreOwn k w) → k ≡ i
         own k w e = cc

@@ -12,7 +12,7 @@ use Rattle.hm_moves.specs.declared.part.Site.{Site}
 use Rattle.hm_moves.specs.declared.part.Part.{Part}
 use Rattle.hm_moves.specs.declared.part.View.{View}
 use Rattle.hm_moves.specs.Fresh.{common_known, fresh_part}
-use Rattle.hm_moves.specs.Moving.{view}
+use Rattle.hm_moves.specs.After.{view}
 use Rattle.hm_cells.specs.Facts.{Facts, Fits, IsAtRest, place_name, sight_of}
 use Rattle.hm_cells.specs.Making.{back, first_roots, fresh_pass, fresh_passes, front, newcomer, newcomers}
 use Rattle.hm_cells.proofs.Found.{there_is}

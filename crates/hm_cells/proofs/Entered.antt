@@ -8,7 +8,8 @@ use Rattle.hm_model.specs.History.{calls_of, opening_of, AreOthers}
 use Rattle.hm_model.specs.Lawful.{IsLawful}
 use Rattle.hm_model.specs.Sight.{Sight, IsSameCaller, HasHistory, Goes}
 use Rattle.hm_model.proofs.HistoryFacts.{calls_of-append}
-use Rattle.hm_moves.specs.Moving.{listed, seen_after}
+use Rattle.hm_moves.specs.Acts.{listed}
+use Rattle.hm_moves.specs.After.{seen_after}
 use Rattle.hm_moves.specs.Good.{Begins}
 use Rattle.hm_moves.proofs.Histories.{come_behind, nothing_more}
 use Rattle.hm_cells.specs.Calls.{Tells}

@@ -7,10 +7,13 @@ use Rattle.std.proofs.lemmas.List.{length-map}
 use Rattle.hm_shape.specs.declared.version.Version.{Version}
 use Rattle.hm_moves.specs.declared.part.Known.{Known}
 use Rattle.hm_moves.specs.declared.moving.Act.{Act}
-use Rattle.hm_moves.specs.declared.moving.Act.TheVariants.{LoadStamp, LoadReference, LoadNumber, LoadLink, StoreOwn, Publish, LinkStore}
-use Rattle.hm_moves.specs.Moving.{is_version, publishes, without, with_held}
-use Rattle.hm_moves.specs.Good.{Found, IsLink}
-use Rattle.hm_cells.specs.Facts.{AreApart, first_idle, is_kept}
+use Rattle.hm_moves.specs.declared.moving.Act.TheVariants.{Looks, Builds}
+use Rattle.hm_moves.specs.declared.moving.Build.TheVariants.{StoreOwn, Publish, LinkStore}
+use Rattle.hm_moves.specs.After.{is_version, without, with_held}
+use Rattle.hm_moves.specs.Acts.{publishes}
+use Rattle.hm_moves.specs.Told.{Found, IsLink}
+use Rattle.hm_moves.specs.Good.{AreApart}
+use Rattle.hm_cells.specs.Facts.{first_idle, is_kept}
 use Rattle.hm_cells.proofs.Found.{any_none, find_none, held_after}
 use Rattle.hm_cells.proofs.Ready.{idle_held}
 
@@ -153,18 +156,15 @@ one_more l (Some k) = go (list_any (is_version k) l)
 -- a move finds a version or publishes one, and not both
 pub not_both : (act : Act) (x : ℕ) (found : Option Known) → Found act x found
     → (found ≡ None) ⊎ (publishes act x ≡ None)
-not_both (LoadStamp at) x found h = inr refl
-not_both (LoadReference at i) x found h = inr refl
-not_both (LoadNumber at i) x found h = inr refl
-not_both (LoadLink at want) x found h = inr refl
-not_both (StoreOwn i word) x found h = inr refl
-not_both (Publish fresh) x found h = inl h
-not_both (LinkStore at fresh entry) zero found h = inl (nothing found h)
+not_both (Looks l) x found h = inr refl
+not_both (Builds (StoreOwn i word)) x found h = inr refl
+not_both (Builds (Publish fresh)) x found h = inl h
+not_both (Builds (LinkStore at fresh entry)) zero found h = inl (nothing found h)
   where
     nothing : (o : Option Known) → IsLink at 0 o → o ≡ None
     nothing None e = refl
     nothing (Some k) e = absurd (let z = e.0 in omega arith)
-not_both (LinkStore at fresh entry) (suc n) found h = inr refl
+not_both (Builds (LinkStore at fresh entry)) (suc n) found h = inr refl
 
 -- so few are held after a move
 pub few_after : (roots : List (Option Version)) (hand : List Version) (held : List Known)

@@ -12,18 +12,19 @@ use Rattle.hm_model.specs.declared.object.Name.{Name}
 use Rattle.hm_model.specs.declared.entry.Entry.{Entry}
 use Rattle.hm_moves.specs.declared.part.Known.{Known}
 use Rattle.hm_moves.specs.declared.part.Part.{Part}
-use Rattle.hm_moves.specs.declared.moving.Act.{Act}
-use Rattle.hm_moves.specs.declared.moving.Act.TheVariants.{LoadStamp, LoadReference, LoadNumber, LoadLink}
-use Rattle.hm_moves.specs.Chain.{IsFit}
-use Rattle.hm_moves.specs.Moving.{word_of, becomes, publishes, HasHand, MayHold, MayLookInto, MayTake}
-use Rattle.hm_moves.specs.Good.{Found, IsReference, IsLink}
-use Rattle.hm_moves.specs.Moving.{field_act}
+use Rattle.hm_moves.specs.declared.moving.Look.{Look}
+use Rattle.hm_moves.specs.declared.moving.Act.TheVariants.{Looks, Builds}
+use Rattle.hm_moves.specs.declared.moving.Look.TheVariants.{LoadStamp, LoadReference, LoadNumber, LoadLink}
+use Rattle.hm_moves.specs.Places.{IsFit}
+use Rattle.hm_moves.specs.Acts.{word_of, becomes, publishes, field_look}
+use Rattle.hm_moves.specs.Allowed.{HasHand, MayHold, MayLookInto, MayTake, MayLook}
+use Rattle.hm_moves.specs.Told.{Found, IsReference, IsLink, LookFound}
 use Rattle.hm_cells.specs.Calls.{taken, version_in}
 
 -- a word from 1 to 15 is the stamp, a reference or a number
-pub field_cases : (P : Act → Type 0) (k : Known) (i : ℕ) → 0 < i → i < 16 → (i ≡ 1 → P (LoadStamp k))
+pub field_cases : (P : Look → Type 0) (k : Known) (i : ℕ) → 0 < i → i < 16 → (i ≡ 1 → P (LoadStamp k))
     → ((j : ℕ) → j < 4 → i ≡ 2 + j → P (LoadReference k j))
-    → ((j : ℕ) → j < 10 → i ≡ 6 + j → P (LoadNumber k j)) → P (field_act k i)
+    → ((j : ℕ) → j < 10 → i ≡ 6 + j → P (LoadNumber k j)) → P (field_look k i)
 field_cases P k i some low a b c = go (i == 1) refl (nat_lt i 6) refl
   where
     go : (t : Bool) → (i == 1) ≡ t → (u : Bool) → nat_lt i 6 ≡ u
@@ -34,28 +35,21 @@ field_cases P k i some low a b c = go (i == 1) refl (nat_lt i 6) refl
 
 module _ {U : Type 0} (p : Part U) (k : Known) (i : ℕ) (some : 0 < i) (low : i < 16) where
   pub take_field : (known : Name → Type 0) (make : Entry → Type 0) → MayLookInto p k
-      → MayTake known make p (field_act k i)
-  take_field known make look = field_cases (MayTake known make p) k i some low (λ e. look)
-      (λ j small e. (look, small)) (λ j small e. (look, small))
+      → MayLook known make p (field_look k i)
+  take_field known make look = field_cases (MayLook known make p) k i some low
+      (λ e. record { look = look; word = tt; reads = tt; may = tt })
+      (λ j small e. record { look = look; word = small; reads = tt; may = tt })
+      (λ j small e. record { look = look; word = small; reads = tt; may = tt })
 
-  pub hold_field : HasHand p → MayHold p (field_act k i)
-  hold_field hand = field_cases (MayHold p) k i some low (λ e. search) (λ j small e. hand) (λ j small e. hand)
+  pub hold_field : HasHand p → MayHold p (Looks (field_look k i))
+  hold_field hand = field_cases (λ l. MayHold p (Looks l)) k i some low (λ e. tt) (λ j small e. hand)
+      (λ j small e. hand)
 
-  pub place_field : word_of p (field_act k i) ≡ word_at p.site.shape k.version i
-  place_field = field_cases (λ act. word_of p act ≡ word_at p.site.shape k.version i) k i some low
+  pub place_field : word_of p (Looks (field_look k i)) ≡ word_at p.site.shape k.version i
+  place_field = field_cases (λ l. word_of p (Looks l) ≡ word_at p.site.shape k.version i) k i some low
       (λ e. ap (word_at p.site.shape k.version) (sym e)) (λ j small e. ap (word_at p.site.shape k.version)
       (sym e))
       (λ j small e. ap (word_at p.site.shape k.version) (sym e))
-
-pub stays_field : (k : Known) (i : ℕ) → 0 < i → i < 16 → (x : ℕ) → becomes (field_act k i) x ≡ x
-stays_field k i some low x = field_cases (λ act. becomes act x ≡ x) k i some low (λ e. refl)
-    (λ j small e. refl)
-    (λ j small e. refl)
-
-pub quiet_field : (k : Known) (i x : ℕ) → 0 < i → i < 16 → publishes (field_act k i) x ≡ None
-quiet_field k i x some low = field_cases (λ act. publishes act x ≡ None) k i some low (λ e. refl)
-    (λ j small e. refl)
-    (λ j small e. refl)
 
 -- versions are few
 pub shape_small : (s : Shape) → version_count s ≤ 2097152
@@ -72,39 +66,39 @@ named_in None w e = ap version_in e
 named_in (Some v) w e = sym (naming_in v) ∙ ap version_in e
 
 -- a word that was found is small, where it names a version
-pub small_reference : (s : Shape) (x : ℕ) (found : Option Known) (r : Option Name) → IsReference x found r
-    → IfSome found (IsFit s) → x ≤ 2 ^ 32
-small_reference s x None r h fit = let e = h.0 in omega arith
-small_reference s x (Some k) r h fit = let e = h.0 in let a = fit.version in let b = shape_small s in omega
+pub small_reference : (s : Shape) (n x : ℕ) (found : Option Known) (r : Option Name) → IsReference x found r
+    → IfSome found (IsFit s n) → x ≤ 2 ^ 32
+small_reference s n x None r h fit = let e = h.0 in omega arith
+small_reference s n x (Some k) r h fit = let e = h.0 in let a = fit.version in let b = shape_small s in omega
     arith
 
-pub small_link : (s : Shape) (x : ℕ) (at : Known) (found : Option Known) → IsLink at x found
-    → IfSome found (IsFit s)
+pub small_link : (s : Shape) (n x : ℕ) (at : Known) (found : Option Known) → IsLink at x found
+    → IfSome found (IsFit s n)
     → x ≤ 2 ^ 32
-small_link s x at None h fit = let e = h in omega arith
-small_link s x at (Some k) h fit = let e = h.0 in let a = fit.version in let b = shape_small s in omega arith
+small_link s n x at None h fit = let e = h in omega arith
+small_link s n x at (Some k) h fit = let e = h.0 in let a = fit.version in let b = shape_small s in omega arith
 
 -- what a load takes into the hand
 pub hand_link : (at : Known) (want : Option Entry) (x : ℕ) (found : Option Known) → IsLink at x found
-    → taken (LoadLink at want) x found ≡ option_to_list (version_in x)
+    → taken (Looks (LoadLink at want)) x found ≡ option_to_list (version_in x)
 hand_link at want x None h = ap (λ (w : ℕ). option_to_list (version_in w)) (sym h)
 hand_link at want x (Some k) h = ap option_to_list (sym (naming_in k.version) ∙ ap version_in (sym h.0))
 
 hand_reference : (at : Known) (j x : ℕ) (found : Option Known) (r : Option Name) → IsReference x found r
-    → taken (LoadReference at j) x found ≡ option_to_list (version_in x)
+    → taken (Looks (LoadReference at j)) x found ≡ option_to_list (version_in x)
 hand_reference at j x None r h = ap (λ (w : ℕ). option_to_list (version_in w)) (sym h.0)
 hand_reference at j x (Some k) r h = ap option_to_list (sym (naming_in k.version) ∙ ap version_in (sym h.0))
 
 -- in terms of what is taken for named
-pub hand_field : (s : Shape) (k : Known) (i x : ℕ) (found : Option Known) (named : Option Version) → 0 < i
+pub hand_field : (s : Shape) (n : ℕ) (k : Known) (i x : ℕ) (found : Option Known) (named : Option Version) → 0 < i
     → i < 16
-    → Found (field_act k i) x found → IfSome found (IsFit s) → (2 ≤ i → i < 6 → x ≤ 2 ^ 32
+    → Found (Looks (field_look k i)) x found → IfSome found (IsFit s n) → (2 ≤ i → i < 6 → x ≤ 2 ^ 32
     → named ≡ version_in x)
-    → ((i < 2) ⊎ (6 ≤ i) → named ≡ None) → taken (field_act k i) x found ≡ option_to_list named
-hand_field s k i x found named some low what fit in_range none =
-    field_cases (λ act. Found act x found → taken act x found ≡ option_to_list named) k i some low
-    (λ e f. ap (taken (LoadStamp k) x) f.1 ∙ ap option_to_list (sym (none (inl (omega arith)))))
+    → ((i < 2) ⊎ (6 ≤ i) → named ≡ None) → taken (Looks (field_look k i)) x found ≡ option_to_list named
+hand_field s n k i x found named some low what fit in_range none =
+    field_cases (λ l. LookFound l x found → taken (Looks l) x found ≡ option_to_list named) k i some low
+    (λ e f. ap (taken (Looks (LoadStamp k)) x) f.1 ∙ ap option_to_list (sym (none (inl (omega arith)))))
     (λ j small e f. hand_reference k j x found _ f
-    ∙ ap option_to_list (sym (in_range (omega arith) (omega arith) (small_reference s x found _ f fit))))
-    (λ j small e f. ap (taken (LoadNumber k j) x) f.1 ∙ ap option_to_list (sym (none (inr (omega arith)))))
+    ∙ ap option_to_list (sym (in_range (omega arith) (omega arith) (small_reference s n x found _ f fit))))
+    (λ j small e f. ap (taken (Looks (LoadNumber k j)) x) f.1 ∙ ap option_to_list (sym (none (inr (omega arith)))))
     what

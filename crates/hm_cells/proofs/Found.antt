@@ -6,8 +6,9 @@ use Rattle.std.specs.Option.{option_map}
 use Rattle.std.proofs.lemmas.List.Folds.{find-append, list_any-append}
 use Rattle.hm_shape.specs.declared.version.Version.{Version}
 use Rattle.hm_moves.specs.declared.part.Known.{Known}
-use Rattle.hm_moves.specs.Moving.{is_version, without, with_held}
-use Rattle.hm_cells.specs.Facts.{find_version, IsAmong, place_name, is_kept, first_idle, AreApart}
+use Rattle.hm_moves.specs.After.{is_version, without, with_held}
+use Rattle.hm_cells.specs.Facts.{find_version, IsAmong, place_name, is_kept, first_idle}
+use Rattle.hm_moves.specs.Good.{AreApart}
 
 module _ {X : Type 0} where
   behind : (x y : X) (xs : List X) → Contains xs x → Contains (y ∷ xs) x

@@ -1,6 +1,8 @@
 -- The passes of a fresh heap.
 use Rattle.std.proofs.Common.{◌≡◌, ◌≢◌, ◌⊎◌, ◌<◌, ◌≤◌, ◌+◌, ◌*◌, ℕ, zero, suc, Bool, true, false, cond, is_some, eqb, eq-eqb, ne_eqb, List, [], ◌∷◌, ◌++◌, length, get_or, replicate, set, Option, Some, None, IfSome, All, refl, sym, ap, ◌∙◌, subst, arith, ⊎_elim, length-set, length-append}
 use Rattle.std.specs.Prelude.{slice_get}
+use mathlib.Core.Option.{some}
+use lib.ListN.{get_elem?}
 use Rattle.std.proofs.lemmas.List.{length-replicate}
 use Rattle.std.proofs.lemmas.List.Elements.{All-set, All-replicate}
 use Rattle.std.proofs.lemmas.List.Sums.{sum_by-cons}
@@ -84,14 +86,14 @@ first_rooted start =
 module _ {U : Type 0} (lawful : U → PlainStore → Type 0) (allowed : U → PlainStore → Entry
     → Type 0) (g : Site U) (z : TableId)
     (q : ℕ) (sure : IsSure lawful allowed (opening_of g.start) (fresh_part g q)) where
-  counted : length (fresh_part g q).hands.published ≡ (fresh_part g q).draft.used
+  counted : length (fresh_part g q).hands.own ≡ (fresh_part g q).draft.used
   counted = by_case (Rattle.std.specs.Prelude.◌==◌ q 0)
     where
       by_case : (t : Bool) → length (cond t (all_known g.start) []) ≡ cond t (starting_count g.start) 0
       by_case true = all_length g.start
       by_case false = refl
 
-  placed : (i : ℕ) (k : Known) → slice_get (fresh_part g q).hands.published i ≡ Some k
+  placed : (i : ℕ) (k : Known) → slice_get (fresh_part g q).hands.own i ≡ Some k
       → k.version ≡ version_at g.shape q 0 i
   placed i k e = by_case (Rattle.std.specs.Prelude.◌==◌ q 0) refl e
     where
@@ -115,7 +117,6 @@ module _ {U : Type 0} (lawful : U → PlainStore → Type 0) (allowed : U → Pl
       let places : List (Option Version) = replicate 256 none in
       record {
         sure = sure;
-        region = refl;
         count = counted;
         places = placed;
         apart = (refl, tt);
@@ -140,15 +141,17 @@ module _ {U : Type 0} (lawful : U → PlainStore → Type 0) (allowed : U → Pl
       part = part_is i;
       roots = roots i;
       hand = hand i;
+      steps = (me i).0.steps;
     }
 
     pub seated_fresh : (used : ℕ) → used ≡ first_used g.start q
-        → IsSeated lawful allowed seat (facts_of seat grip) g.shape q used
+        → IsSeated lawful allowed seat (facts_of seat grip) g.shape q 0 used
     seated_fresh used is = record {
-      alone = parts_are ∙ ap (λ (p : Part U). p ∷ []) (sym part_is);
+      own = ap (λ (l : List (Part U)). get_elem? l 0) parts_are ∙ ap some (sym part_is);
       none = ap (λ (m : Me (Unit {0}) (Knowledge U)). m.1) me;
       shape_is = ap (λ (p : Part U). p.site.shape) part_is;
       number_is = ap (λ (p : Part U). p.number) part_is;
+      to_is = ap (λ (p : Part U). p.draft.region) part_is;
       used_is = ap (λ (p : Part U). p.draft.used) part_is ∙ sym is;
       sound = subst (IsSound lawful allowed) (sym fresh_is) sound_fresh;
     }

@@ -1,5 +1,5 @@
 -- What a move of a good machine tells the caller that makes it.
-use Rattle.std.proofs.Common.{◌≡◌, ℕ, Bool, true, false, List, [], ◌∷◌, ◌++◌, slice_index, slice_set, Option, Some, None, IfSome, Contains, if◌then◌else◌, eqb-true, refl, sym, ap, subst}
+use Rattle.std.proofs.Common.{◌≡◌, ℕ, Bool, true, false, List, [], ◌∷◌, ◌++◌, slice_index, slice_set, Option, Some, None, IfSome, Contains, if◌then◌else◌, eqb-true, refl, sym, ap, subst, ◌+◌}
 use Rattle.std.specs.List.{list_any}
 use Rattle.std.proofs.lemmas.List.Folds.{Any-from_list_any}
 use Rattle.std.proofs.lemmas.List.Elements.{Contains-push}
@@ -17,8 +17,11 @@ use Rattle.hm_moves.specs.declared.part.Part.{Part}
 use Rattle.hm_moves.specs.declared.part.View.{View}
 use Rattle.hm_moves.specs.declared.moving.Move.{Move}
 use Rattle.hm_moves.specs.Chain.{Index, IsPublished}
-use Rattle.hm_moves.specs.Moving.{word_of, publishes, finds, index_with, is_version, without, with_held, next_version, part_after, view_after, Enabled, HasRoom, IsLawfulMove}
-use Rattle.hm_moves.specs.Good.{Begins, Found, PartIsGood, Core, Good, Carries, applied}
+use Rattle.hm_moves.specs.Acts.{word_of, publishes, finds, next_version}
+use Rattle.hm_moves.specs.After.{index_with, is_version, without, with_held, part_after, view_after}
+use Rattle.hm_moves.specs.Allowed.{Enabled, HasRoom, IsLawfulMove}
+use Rattle.hm_moves.specs.Good.{Begins, PartIsGood, Core, Good, Carries, applied}
+use Rattle.hm_moves.specs.Told.{Found}
 use Rattle.hm_moves.proofs.Histories.{others_only}
 use Rattle.hm_moves.proofs.Placed.{published_once}
 use Rattle.hm_moves.proofs.Held.{held_stays}
@@ -68,21 +71,18 @@ map_some P Q (Some a) f h = f a refl h
 
 module _ {U : Type 0} (lawful : U → PlainStore → Type 0) (allowed : U → PlainStore → Entry → Type 0)
     (laws : (u : U) → UsageLaws (lawful u) (allowed u)) where
-  module _ (c : Core U) (id : ℕ) (k : Knowledge U) (p : Part U) (m : Move)
+  module _ (c : Core U) (id place : ℕ) (k : Knowledge U) (p : Part U) (m : Move)
       (good : Good lawful allowed p.site c)
-      (seat : get_elem? c.views id ≡ some k.view) (alone : k.view.parts ≡ p ∷ [])
+      (at : Carries c.views id place k.view p)
       (may : IsLawfulMove lawful allowed c.heap.history p m) where
     abbrev v : View U
     v = k.view
 
-    at : Carries c.views id 0 v p
-    at = record { seat = seat; place = ap (λ (l : List (Part U)). get_elem? l 0) alone }
-
     mine : PartIsGood p.site c.heap v.seen p
-    mine = good.parts id 0 v p at
+    mine = good.parts id place v p at
 
     begins : Begins v.seen c.heap.history
-    begins = good.seen id v seat
+    begins = good.seen id v at.seat
 
     abbrev x : ℕ
     x = slice_index c.heap.words (word_of p m.act)
@@ -94,7 +94,7 @@ module _ {U : Type 0} (lawful : U → PlainStore → Type 0) (allowed : U → Pl
     new = part_after p m x found
 
     abbrev w : View U
-    w = view_after v 0 c.heap.history p m x found
+    w = view_after v place c.heap.history p m x found
 
     abbrev names : Name → Type 0
     names = IsThere (store_of c.heap.history)
@@ -102,20 +102,20 @@ module _ {U : Type 0} (lawful : U → PlainStore → Type 0) (allowed : U → Pl
     abbrev make : Entry → Type 0
     make e = Stands (store_of c.heap.history) e → allowed p.site.usage (store_of c.heap.history) e
 
-    after : Good lawful allowed p.site (applied c id 0 v p m)
-    after = good_step lawful allowed laws p.site c id 0 v p m good at may
+    after : Good lawful allowed p.site (applied c id place v p m)
+    after = good_step lawful allowed laws p.site c id place v p m good at may
 
-    at_after : Carries (applied c id 0 v p m).views id 0 w new
+    at_after : Carries (applied c id place v p m).views id place w new
     at_after = record {
-      seat = set_here c.views id v w seat;
-      place = ap (λ (l : List (Part U)). get_elem? (slice_set l 0 new) 0) alone;
+      seat = set_here c.views id v w at.seat;
+      place = set_here v.parts place p new at.place;
     }
 
     abbrev index : Index
     index = index_with c.heap.index (publishes m.act x)
 
     held : (n : Known) → Contains new.hands.held n → IsPublished index n
-    held = (after.parts id 0 w new at_after).hands.held
+    held = (after.parts id place w new at_after).hands.held
 
     was_found : Found m.act x found × IfSome found (IsPublished c.heap.index)
     was_found = found_now lawful allowed c.heap v.seen p good.heap mine names make m.act may.act x refl
@@ -129,16 +129,24 @@ module _ {U : Type 0} (lawful : U → PlainStore → Type 0) (allowed : U → Pl
     abbrev left : List Known
     left = with_held (without p.hands.held m.let_go) found
 
-    own_learnt : Learnt lawful allowed m k p x (knowledge w)
+    -- what the seat knows afterwards, where `all` is the whole history before
+    abbrev learnt_now : List Entry → Knowledge U
+    learnt_now all = record k {
+      view = view_after v place all p m x found;
+      steps = k.steps + 1;
+      before = [];
+    }
+
+    own_learnt : Learnt lawful allowed m k place p x (learnt_now c.heap.history)
     own_learnt = record {
       between = begins.rest;
       found = found;
-      others = others_only p.number v.seen c.heap.history p.mine begins.rest begins.is mine.calls.all
+      others = others_only p.number v.seen c.heap.history p.calls.mine begins.rest begins.is mine.calls.all
           mine.calls.seen;
       what = was_found.0;
       by = entry_by lawful allowed c.heap v.seen p good.heap mine names make m.act may.act x;
-      is = ap (λ (l : List Entry). knowledge (view_after v 0 l p m x found)) begins.is;
-      sure = sure_of lawful allowed p.site (applied c id 0 v p m) id 0 w new after at_after;
+      is = ap learnt_now begins.is;
+      sure = sure_of lawful allowed p.site (applied c id place v p m) id place w new after at_after;
       holds = added_before index left (publishes m.act x) held (without p.hands.held m.let_go) found refl
           there;
       next = map_some (λ n. (n.version ≡ next_version p) × HasRoom p)
@@ -152,17 +160,17 @@ module _ {U : Type 0} (lawful : U → PlainStore → Type 0) (allowed : U → Pl
     }
 
   -- every enabled move of a good machine tells this
-  pub learnt_of : (g : Site U) (c : Core U) (id : ℕ) (k : Knowledge U) (p : Part U) (m : Move)
-      → (good : Good lawful allowed g c) → (seat : get_elem? c.views id ≡ some k.view)
-      → (alone : k.view.parts ≡ p ∷ [])
+  pub learnt_of : (g : Site U) (c : Core U) (id place : ℕ) (k : Knowledge U) (p : Part U) (m : Move)
+      → (good : Good lawful allowed g c) → (at : Carries c.views id place k.view p)
       → Enabled lawful allowed k.view.seen p m
-      → Learnt lawful allowed m k p (slice_index c.heap.words (word_of p m.act))
-      (knowledge (view_after k.view 0 c.heap.history p m (slice_index c.heap.words (word_of p m.act))
-      (finds c.heap.index m.act (slice_index c.heap.words (word_of p m.act)))))
-  learnt_of g c id k p m good seat alone may =
-      let at : Carries c.views id 0 k.view p =
-      record { seat = seat; place = ap (λ (l : List (Part U)). get_elem? l 0) alone } in
-      own_learnt c id k p m
-      (subst (λ (z : Site U). Good lawful allowed z c) (sym (good.parts id 0 k.view p at).site) good) seat
-      alone
-      (enabled_lawful lawful allowed g c id 0 k.view p m good at may)
+      → Learnt lawful allowed m k place p (slice_index c.heap.words (word_of p m.act))
+      (record k {
+        view = view_after k.view place c.heap.history p m (slice_index c.heap.words (word_of p m.act))
+            (finds c.heap.index m.act (slice_index c.heap.words (word_of p m.act)));
+        steps = k.steps + 1;
+        before = [];
+      })
+  learnt_of g c id place k p m good at may =
+      own_learnt c id place k p m
+      (subst (λ (z : Site U). Good lawful allowed z c) (sym (good.parts id place k.view p at).site) good) at
+      (enabled_lawful lawful allowed g c id place k.view p m good at may)

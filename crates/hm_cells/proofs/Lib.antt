@@ -14,7 +14,6 @@ pub mod Rested
 pub mod Opening
 pub mod Fresh
 pub mod Dealt
-pub mod FirstWords
 pub mod Few
 pub mod Stepped
 pub mod Creating

@@ -14,10 +14,14 @@ use Rattle.hm_model.specs.Store.{PlainStore}
 use Rattle.hm_model.specs.Sight.{MayEnter, name_of}
 use Rattle.hm_moves.specs.declared.part.Known.{Known}
 use Rattle.hm_moves.specs.declared.moving.Act.{Act}
-use Rattle.hm_moves.specs.declared.moving.Act.TheVariants.{LinkStore}
-use Rattle.hm_moves.specs.Chain.{IsFit}
-use Rattle.hm_moves.specs.Moving.{IsKnownField, IsKnownName, MayMake, Turns, HasHand, HasRoom, becomes, count_of, part_after, publishes}
-use Rattle.hm_moves.specs.Good.{IsLink}
+use Rattle.hm_moves.specs.declared.moving.Act.TheVariants.{Looks, Builds}
+use Rattle.hm_moves.specs.declared.moving.Build.TheVariants.{LinkStore}
+use Rattle.hm_moves.specs.Places.{IsFit}
+use Rattle.hm_moves.specs.Allowed.{IsKnownField, IsKnownName, Turns, HasHand, HasRoom, done_seen}
+use Rattle.hm_model.specs.Lawful.{MayMake}
+use Rattle.hm_moves.specs.Acts.{becomes, publishes, next_version}
+use Rattle.hm_moves.specs.After.{count_of, part_after}
+use Rattle.hm_moves.specs.Told.{IsLink}
 use Rattle.hm_cells.specs.declared.knowledge.Knowledge.{Knowledge}
 use Rattle.hm_cells.specs.declared.want.Want.{Want}
 use Rattle.hm_cells.specs.declared.want.Want.TheVariants.{Nothing, Fetch, Store, StoreIf}
@@ -26,36 +30,42 @@ use Rattle.hm_cells.specs.declared.want.WantField.TheVariants.{Number, Refer}
 use Rattle.hm_cells.specs.Grips.{Gripped}
 use Rattle.hm_cells.specs.Facts.{Facts, Fits, Made, IsLookable, known_at, sight_of}
 use Rattle.hm_cells.specs.Calls.{IsWholeCopy, MayChange, MayStore, field_of, linked, move_by, stored, taken, turned}
-use Rattle.hm_cells.specs.Shows.{Exchanges, IsReady, IsSeated, Learns, facts_of}
+use Rattle.hm_cells.specs.Shows.{Exchanges, IsReady, IsSeated, Learns, facts_of, some_move}
 use Rattle.hm_cells.proofs.Fields.{small_link}
 use Rattle.hm_cells.proofs.Ready.{known_look, ready}
 use Rattle.hm_cells.proofs.Storing.{next_is}
 use Rattle.hm_cells.proofs.Wanting.{HasLengths, refs_known, root_known}
+use Rattle.hm_moves.proofs.Held.{some_more}
+
+-- the act of an exchange with a want
+abbrev pub link_by : {U : Type 0} → Facts U → Version → Want → Act
+link_by s v want = Builds (LinkStore (known_at s v) (linked s (known_at s v) want)
+    (Some (stored s (known_at s v) want)))
 
 -- an exchange that found 0 publishes, and takes what it published into the hand
-pub link_published : (at fresh : Known) (entry : Entry) (x : ℕ) → x ≡ 0
-    → publishes (LinkStore at fresh entry) x ≡ Some fresh
-link_published at fresh entry x e = ap (publishes (LinkStore at fresh entry)) e
+pub link_published : (at fresh : Known) (entry : Option Entry) (x : ℕ) → x ≡ 0
+    → publishes (Builds (LinkStore at fresh entry)) x ≡ Some fresh
+link_published at fresh entry x e = ap (publishes (Builds (LinkStore at fresh entry))) e
 
 -- one that found a version does not
-pub link_quiet : (at fresh : Known) (entry : Entry) (x v : ℕ) → x ≡ v + 1
-    → publishes (LinkStore at fresh entry) x ≡ None
+pub link_quiet : (at fresh : Known) (entry : Option Entry) (x v : ℕ) → x ≡ v + 1
+    → publishes (Builds (LinkStore at fresh entry)) x ≡ None
 link_quiet at fresh entry x v e =
-    let is : x ≡ suc v = omega arith in ap (publishes (LinkStore at fresh entry)) is
+    let is : x ≡ suc v = omega arith in ap (publishes (Builds (LinkStore at fresh entry))) is
 
-hand_zero : (at fresh : Known) (entry : Entry) (x : ℕ) (found : Option Known) → IsLink at x found → x ≡ 0
-    → taken (LinkStore at fresh entry) x found ≡ fresh.version ∷ []
-hand_zero at fresh entry x None h e = ap (λ (w : ℕ). taken (LinkStore at fresh entry) w None) e
+hand_zero : (at fresh : Known) (entry : Option Entry) (x : ℕ) (found : Option Known) → IsLink at x found → x ≡ 0
+    → taken (Builds (LinkStore at fresh entry)) x found ≡ fresh.version ∷ []
+hand_zero at fresh entry x None h e = ap (λ (w : ℕ). taken (Builds (LinkStore at fresh entry)) w None) e
 hand_zero at fresh entry x (Some k) h e = absurd (let a = h.0 in omega arith)
 
-hand_later : (at fresh : Known) (entry : Entry) (x : ℕ) (found : Option Known) (later : Version)
+hand_later : (at fresh : Known) (entry : Option Entry) (x : ℕ) (found : Option Known) (later : Version)
     → IsLink at x found → x ≡ naming_word (Some later)
-    → taken (LinkStore at fresh entry) x found ≡ later ∷ []
+    → taken (Builds (LinkStore at fresh entry)) x found ≡ later ∷ []
 hand_later at fresh entry x None later h e = absurd (omega arith)
 hand_later at fresh entry x (Some k) later h e =
     let is : x ≡ suc later.0 = omega arith in
     let same : k.version.0 ≡ later.0 = let a = h.0 in omega arith in
-    ap (λ (w : ℕ). taken (LinkStore at fresh entry) w (Some k)) is
+    ap (λ (w : ℕ). taken (Builds (LinkStore at fresh entry)) w (Some k)) is
     ∙ ap (λ (w : ℕ). record { 0 = w } ∷ []) same
 
 module _ {U : Type 0} where
@@ -86,21 +96,9 @@ module _ {U : Type 0} where
   )
 
   module _ (lawful : U → PlainStore → Type 0) (allowed : U → PlainStore → Entry → Type 0) where
-    enters_may : (s : Facts U) (e : Entry) → MayEnter lawful allowed (sight_of s) e
-        → MayMake (lawful s.part.site.usage) (allowed s.part.site.usage) s.seen s.part.number e
-    enters_may s e may store leads stands = may store
-        record {
-          between = leads.between;
-          others = leads.others;
-          come = leads.come;
-          here = leads.here;
-          store = leads.store;
-        }
-        stands
-
-    module _ (seat : Seat (Unit {0}) (Knowledge U)) (grip : Gripped U) (shape : Shape) (number used : ℕ)
-        (seated : IsSeated lawful allowed seat (facts_of seat grip) shape number used) (o : Facts U)
-        (is : facts_of seat grip ≡ o) (next : Version) (at : IsAt shape next number 0 used) (v : Version)
+    module _ (seat : Seat (Unit {0}) (Knowledge U)) (grip : Gripped U) (shape : Shape) (number to used : ℕ)
+        (seated : IsSeated lawful allowed seat (facts_of seat grip) shape number to used) (o : Facts U)
+        (is : facts_of seat grip ≡ o) (next : Version) (at : next ≡ next_version o.part) (v : Version)
         (looked : IsLookable o v) (want : Want) where
       abbrev s : Facts U
       s = facts_of seat grip
@@ -109,13 +107,13 @@ module _ {U : Type 0} where
       k = known_at s v
 
       abbrev act : Act
-      act = LinkStore k (linked s k want) (stored s k want)
+      act = link_by s v want
 
       look : IsLookable s v
       look = subst (λ (f : Facts U). IsLookable f v) (sym is) looked
 
       pub fresh_is : (linked s k want).version ≡ next
-      fresh_is = next_is lawful allowed seat grip shape number used seated o is next at
+      fresh_is = next_is lawful allowed seat grip shape number to used seated o is next at
 
       turns_link : (x : ℕ) → becomes act x ≡ (if x == 0 then naming_word (Some next) else x)
       turns_link zero = ap (λ (w : Version). naming_word (Some w)) fresh_is
@@ -125,12 +123,12 @@ module _ {U : Type 0} where
       pub link_store_ready : (m : Made U) → Fits o m → HasLengths want → MayStore o (known_at o v) want
           → HasRoom o.part → HasHand o.part → IsWholeCopy o.part (turned o (known_at o v) want)
           → MayEnter lawful allowed (sight_of o) (stored o (known_at o v) want)
-          → IsReady lawful allowed seat.me.0 (move_by s act)
+          → IsReady lawful allowed seat.me.0 (move_by s act) 0
           (Exchanges (move_by s act) (word_at m.site.shape v 0) (naming_word (Some next)))
       link_store_ready m fits long may room hand whole enter =
           let whole' : IsWholeCopy s.part (turned s k want) =
           subst (λ (f : Facts U). IsWholeCopy f.part (turned f (known_at f v) want)) (sym is) whole in
-          ready lawful allowed seat grip shape number used seated act
+          ready lawful allowed seat grip shape number to used seated act
           (Exchanges (move_by s act) (word_at m.site.shape v 0) (naming_word (Some next)))
           record {
             look = (known_look s v look).0;
@@ -144,8 +142,7 @@ module _ {U : Type 0} where
             };
             turns = want_turns s k want long
                 (subst (λ (f : Facts U). MayStore f (known_at f v) want) (sym is) may);
-            may = enters_may s (stored s k want)
-                (subst (λ (f : Facts U). MayEnter lawful allowed (sight_of f) (stored f (known_at f v) want))
+            may = (subst (λ (f : Facts U). MayEnter lawful allowed (sight_of f) (stored f (known_at f v) want))
                 (sym is) enter);
           }
           (subst (λ (f : Facts U). HasHand f.part) (sym is) hand)
@@ -156,38 +153,36 @@ module _ {U : Type 0} where
           }
 
       module _ (seat' : Seat (Unit {0}) (Knowledge U)) (x : ℕ)
-          (learns : Learns lawful allowed (move_by s act) seat.me.0 x seat'.me.0) where
+          (learns : Learns lawful allowed (move_by s act) 0 seat.me.0 x seat'.me.0) where
         abbrev found : Option Known
-        found = (learns s.part seated.alone).found
-
-        found_fit : (f : Option Known) → IfSome f (Contains (part_after s.part (move_by s act) x
-            found).hands.held) → IfSome f (IsFit s.part.site.shape)
-        found_fit None h = tt
-        found_fit (Some n) h = (learns s.part seated.alone).sure.fit n (inl h)
+        found = (learns s.part seated.own).found
 
         pub link_store_small : x ≤ 2 ^ 32
-        link_store_small = small_link s.part.site.shape x k found (learns s.part seated.alone).what
-            (found_fit found (learns s.part seated.alone).holds)
+        link_store_small = small_link s.part.site.shape (done_seen s.part) x k found
+            (learns s.part seated.own).what
+            (some_more (Contains (part_after s.part (move_by s act) x found).hands.held)
+            (IsFit s.part.site.shape (done_seen s.part)) (λ n h. (learns s.part seated.own).sure.fit n (inl h))
+            found (learns s.part seated.own).holds)
 
         -- where 0 was found, the next version is taken into the hand
         pub made_hand : x ≡ 0 → grip.hand ++ option_to_list (Some next) ≡ grip.hand ++ taken act x found
         made_hand e = ap (λ (l : List Version). grip.hand ++ l)
             (ap (λ (w : Version). w ∷ []) (sym fresh_is)
-            ∙ sym (hand_zero k (linked s k want) (stored s k want) x found
-            (learns s.part seated.alone).what e))
+            ∙ sym (hand_zero k (linked s k want) (Some (stored s k want)) x found
+            (learns s.part seated.own).what e))
 
         -- where a version was found, that is
         pub later_hand : (later : Version) → x ≡ naming_word (Some later)
             → grip.hand ++ option_to_list (Some later) ≡ grip.hand ++ taken act x found
         later_hand later e = ap (λ (l : List Version). grip.hand ++ l)
-            (sym (hand_later k (linked s k want) (stored s k want) x found later
-            (learns s.part seated.alone).what e))
+            (sym (hand_later k (linked s k want) (Some (stored s k want)) x found later
+            (learns s.part seated.own).what e))
 
         pub made_used : x ≡ 0 → used + 1 ≡ used + count_of (publishes act x)
         made_used e = ap (λ (o : Option Known). used + count_of o)
-            (sym (link_published k (linked s k want) (stored s k want) x e))
+            (sym (link_published k (linked s k want) (Some (stored s k want)) x e))
 
         pub later_used : (later : Version) → x ≡ naming_word (Some later)
             → used ≡ used + count_of (publishes act x)
         later_used later e =
-            let c = ap count_of (link_quiet k (linked s k want) (stored s k want) x later.0 e) in omega arith
+            let c = ap count_of (link_quiet k (linked s k want) (Some (stored s k want)) x later.0 e) in omega arith

@@ -10,22 +10,26 @@ use Rattle.hm_model.specs.declared.entry.Entry.{Entry}
 use Rattle.hm_model.specs.Store.{PlainStore}
 use Rattle.hm_moves.specs.declared.part.Known.{Known}
 use Rattle.hm_moves.specs.declared.part.Site.{Site}
-use Rattle.hm_moves.specs.declared.moving.Act.{Act}
-use Rattle.hm_moves.specs.declared.moving.Act.TheVariants.{LoadLink}
-use Rattle.hm_moves.specs.Chain.{IsFit}
-use Rattle.hm_moves.specs.Moving.{IsKnownName, MayMake, Reads, HasHand, count_of, part_after, publishes}
-use Rattle.hm_moves.specs.Moving.{field_act}
+use Rattle.hm_moves.specs.declared.moving.Look.{Look}
+use Rattle.hm_moves.specs.declared.moving.Act.TheVariants.{Looks, Builds}
+use Rattle.hm_moves.specs.declared.moving.Look.TheVariants.{LoadLink}
+use Rattle.hm_moves.specs.Places.{IsFit}
+use Rattle.hm_moves.specs.Allowed.{IsKnownName, Reads, HasHand, done_seen}
+use Rattle.hm_model.specs.Lawful.{MayMake}
+use Rattle.hm_moves.specs.After.{count_of, part_after}
+use Rattle.hm_moves.specs.Acts.{publishes, field_look}
 use Rattle.hm_cells.specs.declared.knowledge.Knowledge.{Knowledge}
 use Rattle.hm_cells.specs.Grips.{Gripped}
 use Rattle.hm_cells.specs.Facts.{Facts, Fits, Made, IsLookable, known_at}
 use Rattle.hm_cells.specs.Calls.{move_by, taken, version_in}
-use Rattle.hm_cells.specs.Shows.{IsReady, IsSeated, Learns, Loads, facts_of}
-use Rattle.hm_cells.proofs.Fields.{take_field, hold_field, place_field, stays_field, quiet_field, hand_field, hand_link, small_link, named_in}
+use Rattle.hm_cells.specs.Shows.{IsReady, IsSeated, Learns, Loads, facts_of, some_move}
+use Rattle.hm_cells.proofs.Fields.{take_field, hold_field, place_field, hand_field, hand_link, small_link, named_in}
 use Rattle.hm_cells.proofs.Ready.{known_look, look_fit, look_version, ready}
+use Rattle.hm_moves.proofs.Held.{some_more}
 
 module _ {U : Type 0} (lawful : U → PlainStore → Type 0) (allowed : U → PlainStore → Entry → Type 0)
-    (seat : Seat (Unit {0}) (Knowledge U)) (grip : Gripped U) (shape : Shape) (number used : ℕ)
-    (seated : IsSeated lawful allowed seat (facts_of seat grip) shape number used) (o : Facts U)
+    (seat : Seat (Unit {0}) (Knowledge U)) (grip : Gripped U) (shape : Shape) (number to used : ℕ)
+    (seated : IsSeated lawful allowed seat (facts_of seat grip) shape number to used) (o : Facts U)
     (is : facts_of seat grip ≡ o) where
   abbrev s : Facts U
   s = facts_of seat grip
@@ -37,8 +41,8 @@ module _ {U : Type 0} (lawful : U → PlainStore → Type 0) (allowed : U → Pl
     look : IsLookable s v
     look = subst (λ (f : Facts U). IsLookable f v) (sym is) looked
 
-    pub load_fit : IsFit o.part.site.shape (known_at o v)
-    load_fit = subst (λ (f : Facts U). IsFit f.part.site.shape (known_at f v)) is
+    pub load_fit : IsFit o.part.site.shape (done_seen o.part) (known_at o v)
+    load_fit = subst (λ (f : Facts U). IsFit f.part.site.shape (done_seen f.part) (known_at f v)) is
         (look_fit lawful allowed s v seated.sound look)
 
     module _ (m : Made U) (fits : Fits o m) where
@@ -53,67 +57,67 @@ module _ {U : Type 0} (lawful : U → PlainStore → Type 0) (allowed : U → Pl
           ∙ ap (λ (g : Site U). word_at g.shape v i) fits_here.site
 
       pub field_ready : (i : ℕ) → 0 < i → i < 16 → HasHand o.part
-          → IsReady lawful allowed seat.me.0 (move_by s (field_act k i))
-          (Loads (move_by s (field_act k i)) (word_at m.site.shape v i))
+          → IsReady lawful allowed seat.me.0 (move_by s (Looks (field_look k i))) 0
+          (Loads (move_by s (Looks (field_look k i))) (word_at m.site.shape v i))
       field_ready i some low hand =
-          ready lawful allowed seat grip shape number used seated (field_act k i)
-          (Loads (move_by s (field_act k i)) (word_at m.site.shape v i))
+          ready lawful allowed seat grip shape number to used seated (Looks (field_look k i))
+          (Loads (move_by s (Looks (field_look k i))) (word_at m.site.shape v i))
           (take_field s.part k i some low (IsKnownName s.part)
           (MayMake (lawful s.part.site.usage) (allowed s.part.site.usage) s.seen s.part.number)
           (known_look s v look).0)
           (hold_field s.part k i some low (subst (λ (f : Facts U). HasHand f.part) (sym is) hand))
-          record { place = place_field s.part k i some low ∙ word_here i; stays = stays_field k i some low }
+          record { place = place_field s.part k i some low ∙ word_here i; stays = λ x. refl }
 
       pub link_ready : (want : Option Entry) → HasHand o.part
-          → IfSome want (λ e. Reads (IsKnownName s.part) s.part k e
-          × MayMake (lawful s.part.site.usage) (allowed s.part.site.usage) s.seen s.part.number e)
-          → IsReady lawful allowed seat.me.0 (move_by s (LoadLink k want))
-          (Loads (move_by s (LoadLink k want)) (word_at m.site.shape v 0))
-      link_ready want hand may =
-          ready lawful allowed seat grip shape number used seated (LoadLink k want)
-          (Loads (move_by s (LoadLink k want)) (word_at m.site.shape v 0))
-          ((known_look s v look).0, may)
+          → IfSome want (Reads (IsKnownName s.part) s.part k)
+          → IfSome want (MayMake (lawful s.part.site.usage) (allowed s.part.site.usage) s.seen s.part.number)
+          → IsReady lawful allowed seat.me.0 (move_by s (Looks (LoadLink k want))) 0
+          (Loads (move_by s (Looks (LoadLink k want))) (word_at m.site.shape v 0))
+      link_ready want hand reads may =
+          ready lawful allowed seat grip shape number to used seated (Looks (LoadLink k want))
+          (Loads (move_by s (Looks (LoadLink k want))) (word_at m.site.shape v 0))
+          record { look = (known_look s v look).0; word = tt; reads = reads; may = may }
           (subst (λ (f : Facts U). HasHand f.part) (sym is) hand)
           record { place = word_here 0; stays = λ x. refl }
 
   -- what was found fits the heap
-  module _ (seat' : Seat (Unit {0}) (Knowledge U)) (act : Act) (x : ℕ)
-      (learns : Learns lawful allowed (move_by s act) seat.me.0 x seat'.me.0) where
-    found_fit : IfSome (learns s.part seated.alone).found (IsFit s.part.site.shape)
-    found_fit = go (learns s.part seated.alone).found (learns s.part seated.alone).holds
-      where
-        go : (f : Option Known) → IfSome f (Contains (part_after s.part (move_by s act) x
-            (learns s.part seated.alone).found).hands.held)
-            → IfSome f (IsFit s.part.site.shape)
-        go None h = tt
-        go (Some n) h = (learns s.part seated.alone).sure.fit n (Rattle.std.proofs.Common.inl h)
+  module _ (seat' : Seat (Unit {0}) (Knowledge U)) (l : Look) (x : ℕ)
+      (learns : Learns lawful allowed (move_by s (Looks l)) 0 seat.me.0 x seat'.me.0) where
+    abbrev found : Option Known
+    found = (learns s.part seated.own).found
+
+    found_fit : IfSome found (IsFit s.part.site.shape (done_seen s.part))
+    found_fit = some_more
+        (Contains (part_after s.part (move_by s (Looks l)) x found).hands.held)
+        (IsFit s.part.site.shape (done_seen s.part))
+        (λ n h. (learns s.part seated.own).sure.fit n (Rattle.std.proofs.Common.inl h)) found
+        (learns s.part seated.own).holds
 
   module _ (seat' : Seat (Unit {0}) (Knowledge U)) (v : Version) (i x : ℕ) (some : 0 < i) (low : i < 16)
-      (learns : Learns lawful allowed (move_by s (field_act (known_at s v) i)) seat.me.0 x seat'.me.0) where
+      (learns : Learns lawful allowed (move_by s (Looks (field_look (known_at s v) i))) 0 seat.me.0 x
+      seat'.me.0) where
     pub field_hand : (named : Option Version) → (2 ≤ i → i < 6 → x ≤ 2 ^ 32 → named ≡ version_in x)
         → ((i < 2) ⊎ (6 ≤ i) → named ≡ None)
         → grip.hand ++ option_to_list named
-        ≡ grip.hand ++ taken (field_act (known_at s v) i) x (learns s.part seated.alone).found
+        ≡ grip.hand ++ taken (Looks (field_look (known_at s v) i)) x (learns s.part seated.own).found
     field_hand named in_range none = sym (ap (λ (l : _). grip.hand ++ l)
-        (hand_field s.part.site.shape (known_at s v) i x (learns s.part seated.alone).found named some low
-        (learns s.part seated.alone).what (found_fit seat' (field_act (known_at s v) i) x learns) in_range
+        (hand_field s.part.site.shape (done_seen s.part) (known_at s v) i x (learns s.part seated.own).found
+        named some low
+        (learns s.part seated.own).what (found_fit seat' (field_look (known_at s v) i) x learns) in_range
         none))
 
-    pub field_used : used ≡ used + count_of (publishes (field_act (known_at s v) i) x)
-    field_used =
-        let e : count_of (publishes (field_act (known_at s v) i) x) ≡ 0 =
-        ap count_of (quiet_field (known_at s v) i x some low) in omega arith
-
   module _ (seat' : Seat (Unit {0}) (Knowledge U)) (v : Version) (want : Option Entry) (x : ℕ)
-      (learns : Learns lawful allowed (move_by s (LoadLink (known_at s v) want)) seat.me.0 x seat'.me.0) where
+      (learns : Learns lawful allowed (move_by s (Looks (LoadLink (known_at s v) want))) 0 seat.me.0 x
+      seat'.me.0) where
     pub link_small : x ≤ 2 ^ 32
-    link_small = small_link s.part.site.shape x (known_at s v) (learns s.part seated.alone).found
-        (learns s.part seated.alone).what (found_fit seat' (LoadLink (known_at s v) want) x learns)
+    link_small = small_link s.part.site.shape (done_seen s.part) x (known_at s v)
+        (learns s.part seated.own).found
+        (learns s.part seated.own).what (found_fit seat' (LoadLink (known_at s v) want) x learns)
 
     pub link_hand : (named : Option Version) → naming_word named ≡ x
         → grip.hand ++ option_to_list named
-        ≡ grip.hand ++ taken (LoadLink (known_at s v) want) x (learns s.part seated.alone).found
+        ≡ grip.hand ++ taken (Looks (LoadLink (known_at s v) want)) x (learns s.part seated.own).found
     link_hand named e = ap (λ (l : _). grip.hand ++ l)
         (ap option_to_list (named_in named x e)
-        ∙ sym (hand_link (known_at s v) want x (learns s.part seated.alone).found
-        (learns s.part seated.alone).what))
+        ∙ sym (hand_link (known_at s v) want x (learns s.part seated.own).found
+        (learns s.part seated.own).what))

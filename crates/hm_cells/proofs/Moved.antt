@@ -10,8 +10,13 @@ use Rattle.hm_model.specs.declared.entry.Entry.{Entry}
 use Rattle.hm_model.specs.Store.{PlainStore}
 use Rattle.hm_moves.specs.declared.part.Known.{Known}
 use Rattle.hm_moves.specs.declared.part.Part.{Part}
+use Rattle.hm_moves.specs.declared.part.Site.{Site}
+use Rattle.hm_moves.proofs.Places.{set_here}
+use mathlib.Core.Option.{some, some-injective, some-ne-none}
+use lib.ListN.{get_elem?}
 use Rattle.hm_moves.specs.declared.moving.Act.{Act}
-use Rattle.hm_moves.specs.Moving.{entry_of, publishes, listed, count_of, next_version, part_after}
+use Rattle.hm_moves.specs.Acts.{entry_of, publishes, listed, next_version}
+use Rattle.hm_moves.specs.After.{count_of, part_after}
 use Rattle.hm_cells.specs.declared.knowledge.Knowledge.{Knowledge}
 use Rattle.hm_cells.specs.Grips.{Gripped}
 use Rattle.hm_cells.specs.Facts.{Facts, IsAmong, IsSure, IsSound, find_version, names_at, sight_of}
@@ -70,10 +75,16 @@ taken_held held (Some k) (Some n) a b = λ i d low. two i d low
     two (suc zero) d low = there_found held n b
     two (suc (suc i)) d low = absurd (omega arith)
 
+-- a seat's first caller is its own
+pub first_in : {U : Type 0} (g : Site U) (ps : List (Part U)) (p : Part U) → get_elem? ps 0 ≡ some p
+    → caller_in g ps ≡ p
+first_in g [] p e = absurd (some-ne-none p (sym e))
+first_in g (q ∷ qs) p e = some-injective q p e
+
 module _ {U : Type 0} (lawful : U → PlainStore → Type 0) (allowed : U → PlainStore → Entry → Type 0)
-    (seat seat' : Seat (Unit {0}) (Knowledge U)) (grip grip' : Gripped U) (shape : Shape) (number used : ℕ)
-    (act : Act) (x : ℕ) (seated : IsSeated lawful allowed seat (facts_of seat grip) shape number used)
-    (learns : Learns lawful allowed (move_by (facts_of seat grip) act) seat.me.0 x seat'.me.0)
+    (seat seat' : Seat (Unit {0}) (Knowledge U)) (grip grip' : Gripped U) (shape : Shape) (number to used : ℕ)
+    (act : Act) (x : ℕ) (seated : IsSeated lawful allowed seat (facts_of seat grip) shape number to used)
+    (learns : Learns lawful allowed (move_by (facts_of seat grip) act) 0 seat.me.0 x seat'.me.0)
     (table : seat'.table_id ≡ seat.table_id) (slots : seat'.me.1 ≡ seat.me.1) where
   abbrev s : Facts U
   s = facts_of seat grip
@@ -84,8 +95,8 @@ module _ {U : Type 0} (lawful : U → PlainStore → Type 0) (allowed : U → Pl
   abbrev p : Part U
   p = s.part
 
-  abbrev pub learnt : Learnt lawful allowed (move_by s act) seat.me.0 p x seat'.me.0
-  learnt = learns p seated.alone
+  abbrev pub learnt : Learnt lawful allowed (move_by s act) seat.me.0 0 p x seat'.me.0
+  learnt = learns p seated.own
 
   abbrev between : List Entry
   between = learnt.between
@@ -99,12 +110,12 @@ module _ {U : Type 0} (lawful : U → PlainStore → Type 0) (allowed : U → Pl
   abbrev u : Facts U
   u = after s act between x found
 
-  parts_are : seat'.me.0.view.parts ≡ new ∷ []
-  parts_are = ap (λ (k : Knowledge U). k.view.parts) learnt.is
-      ∙ ap (λ (l : List (Part U)). slice_set l 0 new) seated.alone
+  new_there : get_elem? seat'.me.0.view.parts 0 ≡ some new
+  new_there = ap (λ (k : Knowledge U). get_elem? k.view.parts 0) learnt.is
+      ∙ set_here seat.me.0.view.parts 0 p new seated.own
 
   part_is : t.part ≡ new
-  part_is = ap (caller_in grip'.site) parts_are
+  part_is = first_in grip'.site seat'.me.0.view.parts new new_there
 
   seen_is : t.seen ≡ u.seen
   seen_is = ap (λ (k : Knowledge U). k.view.seen) learnt.is
@@ -125,10 +136,9 @@ module _ {U : Type 0} (lawful : U → PlainStore → Type 0) (allowed : U → Pl
   rooted (Some v) c h = still v (inl c) h
 
   next_places : (o : Option Known) → IfSome o (λ k. (k.version ≡ next_version p) × Contains new.hands.held k)
-      → IfSome o (λ k. k.version ≡ version_at p.site.shape p.number 0 p.draft.used)
+      → IfSome o (λ k. k.version ≡ next_version p)
   next_places None h = tt
-  next_places (Some k) h =
-      h.0 ∙ ap (λ (r : ℕ). version_at p.site.shape p.number r p.draft.used) seated.sound.region
+  next_places (Some k) h = h.0
 
   next_holds : (o : Option Known) → IfSome o (λ k. (k.version ≡ next_version p) × Contains new.hands.held k)
       → IfSome o (Contains new.hands.held)
@@ -138,9 +148,8 @@ module _ {U : Type 0} (lawful : U → PlainStore → Type 0) (allowed : U → Pl
   sound_new : IsSound lawful allowed u
   sound_new = record {
     sure = sure;
-    region = seated.sound.region;
-    count = count_more p.hands.published p.draft.used (publishes act x) seated.sound.count;
-    places = places_more (version_at p.site.shape p.number 0) p.hands.published p.draft.used (publishes act x)
+    count = count_more p.hands.own p.draft.used (publishes act x) seated.sound.count;
+    places = places_more (version_at p.site.shape p.number p.draft.region) p.hands.own p.draft.used (publishes act x)
         seated.sound.count (next_places (publishes act x) learnt.next) seated.sound.places;
     apart = apart_after s.roots s.hand p.hands.held found (publishes act x) seated.sound.apart;
     wide = seated.sound.wide;
@@ -175,6 +184,7 @@ module _ {U : Type 0} (lawful : U → PlainStore → Type 0) (allowed : U → Pl
       part = part_is i;
       roots = roots i;
       hand = hand i;
+      steps = (learnt.is i).steps;
     }
 
     -- the pass is sound
@@ -183,12 +193,13 @@ module _ {U : Type 0} (lawful : U → PlainStore → Type 0) (allowed : U → Pl
 
     -- it is seated, where what was published is counted
     pub seated_now : (used' : ℕ) → used' ≡ used + count_of (publishes act x)
-        → IsSeated lawful allowed seat' t shape number used'
+        → IsSeated lawful allowed seat' t shape number to used'
     seated_now used' more = record {
-      alone = parts_are ∙ ap (λ (q : Part U). q ∷ []) (sym part_is);
+      own = new_there ∙ ap some (sym part_is);
       none = slots ∙ seated.none;
       shape_is = ap (λ (q : Part U). q.site.shape) part_is ∙ seated.shape_is;
       number_is = ap (λ (q : Part U). q.number) part_is ∙ seated.number_is;
+      to_is = ap (λ (q : Part U). q.draft.region) part_is ∙ seated.to_is;
       used_is = ap (λ (q : Part U). q.draft.used) part_is
           ∙ (ap (λ (n : ℕ). n + count_of (publishes act x)) seated.used_is ∙ sym more);
       sound = sound_now;

@@ -12,13 +12,14 @@ use Rattle.hm_moves.specs.declared.part.Site.{Site}
 use Rattle.hm_moves.specs.declared.part.Part.{Part}
 use Rattle.hm_moves.specs.declared.part.View.{View}
 use Rattle.hm_moves.specs.Good.{Begins, Core, Good, Carries}
-use Rattle.hm_moves.specs.Fresh.{fresh_index, fresh_part, fresh_used, IsFreshCore}
+use Rattle.hm_moves.specs.Fresh.{fresh_index, fresh_part, fresh_places, IsFreshCore}
 use Rattle.hm_moves.proofs.Fresh.{good_fresh}
 use Rattle.hm_moves.proofs.Places.{at_end, at_later, at_longer}
 use Rattle.hm_cells.specs.declared.knowledge.Knowledge.{Knowledge}
 use Rattle.hm_cells.specs.Facts.{IsSure}
 use Rattle.hm_cells.specs.Shows.{Shows, knowledge}
-use Rattle.hm_cells.specs.Making.{AreFirst, first_view, newcomers}
+use Rattle.hm_moves.specs.FirstWords.{AreFirst}
+use Rattle.hm_cells.specs.Making.{first_view, newcomers}
 use Rattle.hm_cells.proofs.Sure.{sure_of}
 
 module _ {U : Type 0} (lawful : U → PlainStore → Type 0) (allowed : U → PlainStore → Entry
@@ -59,7 +60,7 @@ module _ {U : Type 0} (lawful : U → PlainStore → Type 0) (allowed : U → Pl
       heap = record {
         words = words;
         index = fresh_index g.start;
-        used = fresh_used g.start;
+        places = fresh_places g.start;
         history = opening_of g.start;
       };
       views = first_view g ∷ [];
@@ -78,7 +79,8 @@ module _ {U : Type 0} (lawful : U → PlainStore → Type 0) (allowed : U → Pl
       heap = record {
         wide = first.wide;
         index = refl;
-        used = refl;
+        places = refl;
+        head = first.head;
         history = refl;
         contents = first.contents;
         links = first.links;
@@ -108,8 +110,7 @@ module _ {U : Type 0} (lawful : U → PlainStore → Type 0) (allowed : U → Pl
     opens S = record {
       core = fresh;
       good = good;
-      words = refl;
-      views = refl;
+      depicts = record { words_are = refl; views_are = refl };
       before = before_first;
     }
       where

@@ -10,8 +10,9 @@ use Rattle.hm_model.specs.Store.{PlainStore}
 use Rattle.hm_moves.specs.declared.part.Known.{Known}
 use Rattle.hm_moves.specs.declared.part.Part.{Part}
 use Rattle.hm_moves.specs.declared.moving.Act.{Act}
-use Rattle.hm_moves.specs.Chain.{IsFit}
-use Rattle.hm_moves.specs.Moving.{IsKnownName, MayHold, MayLookInto, MayMake, MayTake}
+use Rattle.hm_moves.specs.Places.{IsFit}
+use Rattle.hm_moves.specs.Allowed.{IsKnownName, MayHold, MayLookInto, MayTake, done_seen}
+use Rattle.hm_model.specs.Lawful.{MayMake}
 use Rattle.hm_cells.specs.declared.knowledge.Knowledge.{Knowledge}
 use Rattle.hm_cells.specs.Grips.{Gripped}
 use Rattle.hm_cells.specs.Facts.{Facts, Fits, Made, IsSound, IsLookable, first_idle, is_kept, known_at, lookable, nothing_known}
@@ -37,13 +38,13 @@ module _ {U : Type 0} where
       let is : known_at s v ≡ k.0 = ap (λ (o : Option Known). unwrap_or o nothing_known) k.1 in
       let r = found_there (lookable s.part) v k.0 k.1 in (
         subst (MayLookInto s.part) (sym is)
-            (Contains-append_cases s.part.hands.held s.part.hands.published k.0 r.0),
+            (Contains-append_cases s.part.hands.held s.part.hands.own k.0 r.0),
         ap (λ (m : Known). m.version) is ∙ r.1,
       )
 
   module _ (lawful : U → PlainStore → Type 0) (allowed : U → PlainStore → Entry → Type 0) where
     pub look_fit : (s : Facts U) (v : Version) → IsSound lawful allowed s → IsLookable s v
-        → IsFit s.part.site.shape (known_at s v)
+        → IsFit s.part.site.shape (done_seen s.part) (known_at s v)
     look_fit s v sound look = sound.sure.fit (known_at s v) (known_look s v look).0
 
     -- such a version is one of the heap's
@@ -55,8 +56,8 @@ module _ {U : Type 0} where
         (subst (λ (g : _). IsVersionOf g.shape (known_at s v).version) fits.site
         (look_fit s v sound look).version)
 
-    module _ (seat : Seat (Unit {0}) (Knowledge U)) (grip : Gripped U) (shape : Shape) (number used : ℕ)
-        (seated : IsSeated lawful allowed seat (facts_of seat grip) shape number used) (act : Act) where
+    module _ (seat : Seat (Unit {0}) (Knowledge U)) (grip : Gripped U) (shape : Shape) (number to used : ℕ)
+        (seated : IsSeated lawful allowed seat (facts_of seat grip) shape number to used) (act : Act) where
       abbrev s : Facts U
       s = facts_of seat grip
 
@@ -64,10 +65,10 @@ module _ {U : Type 0} where
       pub ready : (P : Part U → Type 0)
           → MayTake (IsKnownName s.part)
           (MayMake (lawful s.part.site.usage) (allowed s.part.site.usage) s.seen s.part.number) s.part act
-          → MayHold s.part act → P s.part → IsReady lawful allowed seat.me.0 (move_by s act) P
+          → MayHold s.part act → P s.part → IsReady lawful allowed seat.me.0 (move_by s act) 0 P
       ready P may hold here = record {
         caller = s.part;
-        alone = seated.alone;
+        carries = seated.own;
         enabled = record { act = may; holds = hold; let_go = idle_held s.roots s.hand s.part.hands.held };
         moves = here;
       }

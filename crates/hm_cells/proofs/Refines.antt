@@ -1,10 +1,10 @@
 -- A call is one step of the machine.
-use Rattle.std.proofs.Common.{◌≡◌, ◌≢◌, ℕ, zero, suc, ◌<◌, List, [], ◌∷◌, ◌++◌, append-nil, map, slice_index, slice_set, Option, if◌then◌else◌, refl, sym, ap, ◌∙◌, subst, ⊎_elim}
+use Rattle.std.proofs.Common.{◌≡◌, ◌+◌, ◌≢◌, ℕ, zero, suc, ◌<◌, List, [], ◌∷◌, ◌++◌, append-nil, map, slice_index, slice_set, Option, if◌then◌else◌, refl, sym, ap, ◌∙◌, subst, ⊎_elim}
 use Rattle.std.specs.Prelude.{◌==◌}
-use Rattle.std.proofs.lemmas.List.{map-set, map-append}
-use mathlib.Core.Option.{some}
+use Rattle.std.proofs.lemmas.List.{map-set, map-append, set-get_or}
+use mathlib.Core.Option.{some, some-injective}
 use lib.ListN.{get_elem?}
-use Rattle.atomic_table.specs.Table.{Act, Allows, Splits, Joins, keeps, stepped, Valid, carried_after}
+use Rattle.atomic_table.specs.Table.{Act, State, Allows, Splits, Joins, keeps, stepped, Valid, carried_after}
 use Rattle.atomic_table.proofs.Lists.{at_map, at_snoc}
 use Rattle.hm_model.specs.declared.entry.Entry.{Entry}
 use Rattle.hm_model.specs.Store.{PlainStore}
@@ -14,21 +14,42 @@ use Rattle.hm_moves.specs.declared.part.Site.{Site}
 use Rattle.hm_moves.specs.declared.part.Part.{Part}
 use Rattle.hm_moves.specs.declared.part.View.{View}
 use Rattle.hm_moves.specs.declared.moving.Move.{Move}
-use Rattle.hm_moves.specs.Moving.{word_of, becomes, entry_of, listed, view, view_after, finds, Enabled}
-use Rattle.hm_moves.specs.Good.{Begins, Core, Good, Carries, applied, split, joined, joined_view, longer, spent_view}
+use Rattle.hm_moves.specs.Acts.{word_of, becomes, entry_of, listed, finds}
+use Rattle.hm_moves.specs.After.{view, view_after, view_letting, letting}
+use Rattle.hm_moves.specs.Allowed.{Enabled}
+use Rattle.hm_moves.specs.Good.{Begins, Core, Good, Carries, applied, split, joined, joined_view, longer, spent_view, Depicts, released}
 use Rattle.hm_moves.proofs.Histories.{begins_more, left_begins}
-use Rattle.hm_moves.proofs.Places.{at_set, set_else}
+use Rattle.hm_moves.proofs.Places.{at_set, set_else, set_here}
 use Rattle.hm_moves.proofs.Steps.{good_step}
 use Rattle.hm_moves.proofs.Seats.{good_split, good_join}
 use Rattle.hm_moves.proofs.Enabling.{enabled_lawful}
 use Rattle.hm_cells.specs.declared.knowledge.Knowledge.{Knowledge}
-use Rattle.hm_cells.specs.Shows.{Shows, Learnt, Learns, Looked, Looks, IsReady, Loads, Stores, Exchanges, knowledge, looking, noted, met, spent}
+use Rattle.hm_cells.specs.Shows.{Shows, Learnt, Learns, Looked, LookTells, IsReady, Loads, Stores, Exchanges, knowledge, looking, noted, met, spent, noting, first_letting}
 use Rattle.hm_cells.specs.Making.{front, back}
 use Rattle.hm_cells.proofs.Learning.{learnt_of}
-use Rattle.hm_cells.proofs.Sure.{rested_core, good_letting, sure_letting}
+use Rattle.hm_cells.proofs.Sure.{sure_letting}
+use Rattle.hm_moves.proofs.Letting.{good_released}
+use Rattle.hm_moves.specs.Places.{Heap}
 
-first_same : {U : Type 0} (p q : Part U) → p ∷ [] ≡ q ∷ [] → p ≡ q
-first_same p q e = cc
+same_place : {U : Type 0} (ps : List (Part U)) (n : ℕ) (p q : Part U) → get_elem? ps n ≡ some p
+    → get_elem? ps n ≡ some q → p ≡ q
+same_place ps n p q a b = some-injective p q (sym a ∙ b)
+
+module _ {A : Type 0} where
+  -- what is put in twice is put in
+  set_twice : (l : List A) (i : ℕ) (a : A) → slice_set (slice_set l i a) i a ≡ slice_set l i a
+  set_twice [] i a = refl
+  set_twice (x ∷ xs) zero a = refl
+  set_twice (x ∷ xs) (suc i) a = ap (λ (l : List A). x ∷ l) (set_twice xs i a)
+
+  -- what is there already changes nothing
+  set_there : (l : List A) (i : ℕ) (a : A) → get_elem? l i ≡ some a → slice_set l i a ≡ l
+  set_there [] i a e = refl
+  set_there (x ∷ xs) zero a e = ap (λ (b : A). b ∷ xs) (some-injective a x (sym e))
+  set_there (x ∷ xs) (suc i) a e = ap (λ (l : List A). x ∷ l) (set_there xs i a e)
+
+set_same : (words : List ℕ) (i : ℕ) → slice_set words i (slice_index words i) ≡ words
+set_same words i = set-get_or words i 0
 
 -- every list is its front and its back
 front_back : {U : Type 0} (ps : List (Part U)) → ps ≡ front ps ++ back ps
@@ -43,56 +64,73 @@ module _ {U : Type 0} where
   abbrev seen_by : Knowledge U → View U
   seen_by k = k.view
 
+  -- a state that depicts a machine depicts the machine after a move, once the call's word and view are changed
+  pub depicts_step : (words : List ℕ) (views : List (Knowledge U)) (c : Core U) (id place : ℕ)
+      (k l : Knowledge U) (p : Part U) (m : Move)
+      → Depicts words (map seen_by views) c
+      → l.view ≡ view_after k.view place c.heap.history p m (slice_index c.heap.words (word_of p m.act))
+      (finds c.heap.index m.act (slice_index c.heap.words (word_of p m.act)))
+      → Depicts (slice_set words (word_of p m.act) (becomes m.act (slice_index words (word_of p m.act))))
+      (map seen_by (slice_set views id l)) (applied c id place k.view p m)
+  depicts_step words views c id place k l p m shown is = record {
+    words_are = ap (λ (i : List ℕ). slice_set i (word_of p m.act) (becomes m.act (slice_index i
+        (word_of p m.act)))) shown.words_are;
+    views_are = (λ i. slice_set (shown.views_are i) id (sym is i)) ∙ sym (map-set seen_by views id l);
+  }
+
 module _ {S U : Type 0} (lawful : U → PlainStore → Type 0) (allowed : U → PlainStore → Entry → Type 0)
     (laws : (u : U) → UsageLaws (lawful u) (allowed u)) (g : Site U) where
-  module _ (slots id : ℕ) (k : Knowledge U) (held : List (ℕ × S)) (m : Move) (p : Part U)
-      (alone : k.view.parts ≡ p ∷ [])
+  -- the seat of a table's state is one of the machine that it depicts
+  seat_in : (s : State S (Knowledge U)) (shows : Shows lawful allowed g s) (id : ℕ) (k : Knowledge U)
+      → get_elem? s.views id ≡ some k → get_elem? shows.core.views id ≡ some k.view
+  seat_in s shows id k at = ap (λ (l : List (View U)). get_elem? l id) shows.depicts.views_are
+      ∙ at_map seen_by s.views id k at
+
+  -- what seats had seen before a meeting begins the history, where one seat forgets it and entries are made
+  before_now : (s : State S (Knowledge U)) (h more : List Entry) (id : ℕ) (l : Knowledge U) → l.before ≡ []
+      → ((j : ℕ) (u : Knowledge U) → get_elem? s.views j ≡ some u → Begins u.before h)
+      → (j : ℕ) (u : Knowledge U) → get_elem? (slice_set s.views id l) j ≡ some u
+      → Begins u.before (h ++ more)
+  before_now s h more id l none all j u there = ⊎_elim
+      (λ (t : (j ≡ id) × (l ≡ u)). subst (λ (z : Knowledge U). Begins z.before (h ++ more)) t.1
+      (subst (λ (z : List Entry). Begins z (h ++ more)) (sym none) (nothing_begins (h ++ more))))
+      (λ (t : (j ≢ id) × (get_elem? s.views j ≡ some u)). begins_more u.before h more (all j u t.1))
+      (at_set s.views id j l u there)
+
+  module _ (slots id place : ℕ) (k : Knowledge U) (held : List (ℕ × S)) (m : Move) (p : Part U)
+      (own : get_elem? k.view.parts place ≡ some p)
       (may : Enabled lawful allowed k.view.seen p m) where
     -- whatever the table is, the move is one step of the machine that it shows
     one_step : Allows {S = S} (Shows lawful allowed g) slots id (k, held) (word_of p m.act) (becomes m.act)
-        (λ x w. Learns lawful allowed m k x w.0 × (w.1 ≡ held))
+        (λ x w. Learns lawful allowed m place k x w.0 × (w.1 ≡ held))
     one_step s shows homes at small =
         let c : Core U = shows.core in
-        let v : View U = k.view in
-        let at_c : get_elem? c.views id ≡ some v =
-        ap (λ (l : List (View U)). get_elem? l id) shows.views ∙ at_map seen_by s.views id k at in
-        let carries : Carries c.views id 0 v p = record {
-          seat = at_c;
-          place = ap (λ (l : List (Part U)). get_elem? l 0) alone;
-        } in
+        let carries : Carries c.views id place k.view p =
+        record { seat = seat_in s shows id k at; place = own } in
         let x : ℕ = slice_index c.heap.words (word_of p m.act) in
         let x' : ℕ = slice_index s.words (word_of p m.act) in
-        let same : x ≡ x' = ap (λ (l : List ℕ). slice_index l (word_of p m.act)) shows.words in
-        let w : View U = view_after v 0 c.heap.history p m x (finds c.heap.index m.act x) in
-        let l : Knowledge U = knowledge w in
-        let lawfully = enabled_lawful lawful allowed g c id 0 v p m shows.good carries may in
-        let good : Good lawful allowed g (applied c id 0 v p m) =
-        good_step lawful allowed laws g c id 0 v p m shows.good carries lawfully in
-        let learnt : Learnt lawful allowed m k p x l =
-        learnt_of lawful allowed laws g c id k p m shows.good at_c alone may in (
+        let same : x ≡ x' = ap (λ (l : List ℕ). slice_index l (word_of p m.act)) shows.depicts.words_are in
+        let l : Knowledge U = record k {
+          view = view_after k.view place c.heap.history p m x (finds c.heap.index m.act x);
+          steps = k.steps + 1;
+          before = [];
+        } in
+        let lawfully = enabled_lawful lawful allowed g c id place k.view p m shows.good carries may in
+        let learnt : Learnt lawful allowed m k place p x l =
+        learnt_of lawful allowed laws g c id place k p m shows.good carries may in (
           l,
           keeps,
           tt,
           record {
-            core = applied c id 0 v p m;
-            good = good;
-            words = ap (λ (i : List ℕ). slice_set i (word_of p m.act) (becomes m.act (slice_index i
-                (word_of p m.act)))) shows.words;
-            views = ap (λ (i : List (View U)). slice_set i id w) shows.views
-                ∙ sym (map-set seen_by s.views id l);
-            before = λ j u there. ⊎_elim
-                (λ (t : (j ≡ id) × (l ≡ u)). subst (λ (z : Knowledge U). Begins z.before
-                (applied c id 0 v p m).heap.history) t.1
-                (nothing_begins (applied c id 0 v p m).heap.history))
-                (λ (t : (j ≢ id) × (get_elem? s.views j ≡ some u)).
-                begins_more u.before c.heap.history (listed (entry_of p.number m.act x))
-                (shows.before j u t.1))
-                (at_set s.views id j l u there);
+            core = applied c id place k.view p m;
+            good = good_step lawful allowed laws g c id place k.view p m shows.good carries lawfully;
+            depicts = depicts_step s.words s.views c id place k l p m shows.depicts refl;
+            before = before_now s c.heap.history (listed (entry_of p.number m.act x)) id l refl shows.before;
           },
           (
-            λ q other. subst (λ (r : Part U). Learnt lawful allowed m k r x' l) (first_same p q (sym alone
-                ∙ other))
-                (subst (λ (n : ℕ). Learnt lawful allowed m k p n l) same learnt),
+            λ q other. subst (λ (r : Part U). Learnt lawful allowed m k place r x' l)
+                (same_place k.view.parts place p q own other)
+                (subst (λ (n : ℕ). Learnt lawful allowed m k place p n l) same learnt),
             refl,
           ),
         )
@@ -100,95 +138,90 @@ module _ {S U : Type 0} (lawful : U → PlainStore → Type 0) (allowed : U → 
     -- the same where the word and the change are known under other names
     step_as : (word : ℕ) (f : ℕ → ℕ) → word_of p m.act ≡ word → ((x : ℕ) → becomes m.act x ≡ f x)
         → Allows {S = S} (Shows lawful allowed g) slots id (k, held) word f
-        (λ x w. Learns lawful allowed m k x w.0 × (w.1 ≡ held))
+        (λ x w. Learns lawful allowed m place k x w.0 × (w.1 ≡ held))
     step_as word f is turns s shows homes at small =
         let small' : slice_index s.words (word_of p m.act) < 18446744073709551616 =
         subst (λ (i : ℕ). slice_index s.words i < 18446744073709551616) (sym is) small in
         let P : ℕ → ℕ → Type 0 = λ i y. (w : Knowledge U) × (a : Act S) × Valid s.homes held a
         × Shows lawful allowed g (stepped s i y id held w a)
-        × (Learns lawful allowed m k (slice_index s.words i) w × (carried_after held a ≡ held)) in
+        × (Learns lawful allowed m place k (slice_index s.words i) w × (carried_after held a ≡ held)) in
         subst (λ (i : ℕ). P i (f (slice_index s.words i))) is
         (subst (λ (y : ℕ). P (word_of p m.act) y) (turns (slice_index s.words (word_of p m.act)))
         (one_step s shows homes at small'))
 
-  module _ (slots id : ℕ) (k : Knowledge U) (held : List (ℕ × S)) (m : Move) where
-    pub load_as : (word : ℕ) → IsReady lawful allowed k m (Loads m word)
+  module _ (slots id place : ℕ) (k : Knowledge U) (held : List (ℕ × S)) (m : Move) where
+    pub load_as : (word : ℕ) → IsReady lawful allowed k m place (Loads m word)
         → Allows {S = S} (Shows lawful allowed g) slots id (k, held) word (λ n. n)
-        (λ x w. Learns lawful allowed m k x w.0 × (w.1 ≡ held))
-    load_as word r =
-        step_as slots id k held m r.caller r.alone r.enabled word (λ n. n) r.moves.place r.moves.stays
+        (λ x w. Learns lawful allowed m place k x w.0 × (w.1 ≡ held))
+    load_as word r = step_as slots id place k held m r.caller r.carries r.enabled word (λ n. n)
+        r.moves.place r.moves.stays
 
-    pub exchange_as : (word link : ℕ) → IsReady lawful allowed k m (Exchanges m word link)
+    pub exchange_as : (word link : ℕ) → IsReady lawful allowed k m place (Exchanges m word link)
         → Allows {S = S} (Shows lawful allowed g) slots id (k, held) word (λ n. if n == 0 then link else n)
-        (λ x w. Learns lawful allowed m k x w.0 × (w.1 ≡ held))
-    exchange_as word link r =
-        step_as slots id k held m r.caller r.alone r.enabled word (λ n. if n == 0 then link else n)
-        r.moves.place r.moves.turns
+        (λ x w. Learns lawful allowed m place k x w.0 × (w.1 ≡ held))
+    exchange_as word link r = step_as slots id place k held m r.caller r.carries r.enabled word
+        (λ n. if n == 0 then link else n) r.moves.place r.moves.turns
 
     -- a store is told the number that it stored
-    pub store_as : (word value : ℕ) → IsReady lawful allowed k m (Stores lawful allowed m word value)
+    pub store_as : (word value : ℕ) → IsReady lawful allowed k m place (Stores lawful allowed m word value)
         → Allows {S = S} (Shows lawful allowed g) slots id (k, held) word (λ _. value)
-        (λ _ w. Learns lawful allowed m k value w.0 × (w.1 ≡ held))
+        (λ _ w. Learns lawful allowed m place k value w.0 × (w.1 ≡ held))
     store_as word value r s shows homes at small =
-        let a = step_as slots id k held m r.caller r.alone r.enabled word
+        let a = step_as slots id place k held m r.caller r.carries r.enabled word
         (λ _. value) r.moves.place r.moves.value_is s
         shows homes at small in
-        let learnt : Learnt lawful allowed m k r.caller value a.0 =
-        r.moves.blind k a.0 (slice_index s.words word) value (a.4.0 r.caller r.alone) in (
+        let learnt : Learnt lawful allowed m k place r.caller value a.0 =
+        r.moves.blind k a.0 place (slice_index s.words word) value (a.4.0 r.caller r.carries) in (
           a.0,
           a.1,
           a.2,
           a.3,
           (
-            λ q other. subst (λ (y : Part U). Learnt lawful allowed m k y value a.0)
-                (first_same r.caller q (sym r.alone ∙ other)) learnt,
+            λ q other. subst (λ (y : Part U). Learnt lawful allowed m k place y value a.0)
+                (same_place k.view.parts place r.caller q r.carries other) learnt,
             a.4.1,
           ),
         )
 
   -- a look moves no word
-  pub look_as : (slots id : ℕ) (k : Knowledge U) (held : List (ℕ × S)) (o : Option Known) (p : Part U) (i : ℕ)
-      → k.view.parts ≡ p ∷ []
+  pub look_as : (slots id place : ℕ) (k : Knowledge U) (held : List (ℕ × S)) (o : Option Known) (p : Part U)
+      (i : ℕ) → get_elem? k.view.parts place ≡ some p
       → Allows {S = S} (Shows lawful allowed g) slots id (k, held) i (λ n. n)
-      (λ _ w. Looks lawful allowed o k w.0 × (w.1 ≡ held))
-  look_as slots id k held o p i alone s shows homes at small =
+      (λ _ w. LookTells lawful allowed o place k w.0 × (w.1 ≡ held))
+  look_as slots id place k held o p i own s shows homes at small =
       let c : Core U = shows.core in
       let v : View U = k.view in
-      let at_c : get_elem? c.views id ≡ some v =
-      ap (λ (l : List (View U)). get_elem? l id) shows.views ∙ at_map seen_by s.views id k at in
-      let l : Knowledge U = looking k p o in
+      let carries : Carries c.views id place v p = record { seat = seat_in s shows id k at; place = own } in
+      let l : Knowledge U = looking k place p o in
       let begun : Begins k.before (longer k.before v.seen) =
-      left_begins k.before v.seen c.heap.history (shows.before id k at) (shows.good.seen id v at_c) in (
+      left_begins k.before v.seen c.heap.history (shows.before id k at)
+      (shows.good.seen id v carries.seat) in (
         l,
         keeps,
         tt,
         record {
-          core = rested_core lawful allowed g c id v p o shows.good at_c alone;
-          good = good_letting lawful allowed g c id v p o shows.good at_c alone;
-          words = shows.words ∙ sym (set_same s.words i);
-          views = ap (λ (z : List (View U)). slice_set z id l.view) shows.views
-              ∙ sym (map-set seen_by s.views id l);
-          before = λ j u there. ⊎_elim
-              (λ (t : (j ≡ id) × (l ≡ u)). subst (λ (z : Knowledge U). Begins z.before c.heap.history) t.1
-              (nothing_begins c.heap.history))
-              (λ (t : (j ≢ id) × (get_elem? s.views j ≡ some u)). shows.before j u t.1)
-              (at_set s.views id j l u there);
+          core = released c id place v p o;
+          good = good_released lawful allowed g c id place v p o shows.good carries;
+          depicts = record {
+            words_are = shows.depicts.words_are ∙ sym (set_same s.words i);
+            views_are = ap (λ (z : List (View U)). slice_set z id l.view) shows.depicts.views_are
+                ∙ sym (map-set seen_by s.views id l);
+          };
+          before = subst (λ (h : List Entry). (j : ℕ) (u : Knowledge U)
+              → get_elem? (slice_set s.views id l) j ≡ some u → Begins u.before h)
+              (append-nil c.heap.history) (before_now s c.heap.history [] id l refl shows.before);
         },
         (
-          λ q other. subst (λ (r : Part U). Looked lawful allowed o k r l) (first_same p q (sym alone
-              ∙ other)) record {
+          λ q other. subst (λ (r : Part U). Looked lawful allowed o k place r l)
+              (same_place v.parts place p q own other)
+              record {
                 is = refl;
-                sure = sure_letting lawful allowed g c id v p o shows.good at_c alone;
+                sure = sure_letting lawful allowed g c id place v p o shows.good carries;
                 begins = begun;
               },
           refl,
         ),
       )
-    where
-      set_same : (words : List ℕ) (i : ℕ) → slice_set words i (slice_index words i) ≡ words
-      set_same [] i = refl
-      set_same (x ∷ xs) zero = refl
-      set_same (x ∷ xs) (suc i) = ap (λ (l : List ℕ). x ∷ l) (set_same xs i)
 
   cuts : (id : ℕ) (k kept new : Knowledge U) → k.view.parts ≡ kept.view.parts ++ new.view.parts
       → kept.view ≡ view k.view.seen kept.view.parts → new.view ≡ view k.view.seen new.view.parts
@@ -200,17 +233,18 @@ module _ {S U : Type 0} (lawful : U → PlainStore → Type 0) (allowed : U → 
       let v : View U = k.view in
       let left : List (Part U) = kept.view.parts in
       let right : List (Part U) = new.view.parts in
-      let at_c : get_elem? c.views id ≡ some v =
-      ap (λ (l : List (View U)). get_elem? l id) shows.views ∙ at_map seen_by s.views id k at in
+      let at_c : get_elem? c.views id ≡ some v = seat_in s shows id k at in
       record {
         core = split c id v left right;
         good = good_split lawful allowed g c id v shows.good at_c left right cut;
-        words = shows.words;
-        views = ap (λ (l : List (View U)). slice_set l id (view v.seen left) ++ view v.seen right ∷ [])
-            shows.views
-            ∙ ((λ i. slice_set (map seen_by s.views) id (sym a i) ++ sym b i ∷ [])
-            ∙ (ap (λ (l : List (View U)). l ++ new.view ∷ []) (sym (map-set seen_by s.views id kept))
-            ∙ sym (map-append seen_by (slice_set s.views id kept) (new ∷ []))));
+        depicts = record {
+          words_are = shows.depicts.words_are;
+          views_are = ap (λ (l : List (View U)). slice_set l id (view v.seen left) ++ view v.seen right ∷ [])
+              shows.depicts.views_are
+              ∙ ((λ i. slice_set (map seen_by s.views) id (sym a i) ++ sym b i ∷ [])
+              ∙ (ap (λ (l : List (View U)). l ++ new.view ∷ []) (sym (map-set seen_by s.views id kept))
+              ∙ sym (map-append seen_by (slice_set s.views id kept) (new ∷ []))));
+        };
         before = λ j u there. ⊎_elim
             (λ (t : get_elem? (slice_set s.views id kept) j ≡ some u). ⊎_elim
             (λ (r : (j ≡ id) × (kept ≡ u)). subst (λ (z : Knowledge U). Begins z.before c.heap.history) r.1
@@ -229,9 +263,63 @@ module _ {S U : Type 0} (lawful : U → PlainStore → Type 0) (allowed : U → 
       (knowledge (view k.view.seen (back k.view.parts))) (front_back k.view.parts) refl refl
       (λ h b. nothing_begins h) (λ h. nothing_begins h)
 
-  pub notes : (id : ℕ) (k : Knowledge U) → Splits {S = S} (Shows lawful allowed g) id k k (noted k)
-  notes id k = cuts id k k (noted k) (sym (append-nil k.view.parts)) refl refl (λ h b. b)
-      (λ h. nothing_begins h)
+  -- a state in which a seat's own caller lets go of a version shows a good machine
+  module _ (id : ℕ) (k : Knowledge U) (o : Option Known) (s : State S (Knowledge U))
+      (shows : Shows lawful allowed g s) (at : get_elem? s.views id ≡ some k) where
+    abbrev let_go : State S (Knowledge U)
+    let_go = record s { views = slice_set s.views id (noting o k) }
+
+    before_kept : (j : ℕ) (u : Knowledge U) → get_elem? let_go.views j ≡ some u
+        → Begins u.before shows.core.heap.history
+    before_kept j u there = ⊎_elim
+        (λ (t : (j ≡ id) × (noting o k ≡ u)).
+        subst (λ (z : Knowledge U). Begins z.before shows.core.heap.history) t.1 (shows.before id k at))
+        (λ (t : (j ≢ id) × (get_elem? s.views j ≡ some u)). shows.before j u t.1)
+        (at_set s.views id j (noting o k) u there)
+
+    with_views : (c : Core U) → Good lawful allowed g c → c.heap ≡ shows.core.heap
+        → c.views ≡ slice_set (map seen_by s.views) id (noting o k).view → Shows lawful allowed g let_go
+    with_views c good heap views = record {
+      core = c;
+      good = good;
+      depicts = record {
+        words_are = ap (λ (h : Heap). h.words) heap ∙ shows.depicts.words_are;
+        views_are = views ∙ sym (map-set seen_by s.views id (noting o k));
+      };
+      before = λ j u there. subst (λ (h : Heap). Begins u.before h.history) (sym heap)
+          (before_kept j u there);
+    }
+
+    lets_go : (ps : List (Part U)) → k.view.parts ≡ ps → Shows lawful allowed g let_go
+    lets_go [] e =
+        let same : k.view ≡ (noting o k).view =
+        (λ i. view k.view.seen (e i)) ∙ ap (λ (l : List (Part U)). view k.view.seen (first_letting l o)) (sym e)
+        in with_views shows.core shows.good refl
+        (shows.depicts.views_are
+        ∙ (sym (set_there (map seen_by s.views) id k.view (at_map seen_by s.views id k at))
+        ∙ ap (slice_set (map seen_by s.views) id) same))
+    lets_go (p ∷ ps) e =
+        let carries : Carries shows.core.views id 0 k.view p = record {
+          seat = seat_in s shows id k at;
+          place = ap (λ (l : List (Part U)). get_elem? l 0) e;
+        } in
+        let now : view_letting k.view 0 p o ≡ (noting o k).view =
+        ap (λ (l : List (Part U)). view k.view.seen (slice_set l 0 (letting p o))) e
+        ∙ ap (λ (l : List (Part U)). view k.view.seen (first_letting l o)) (sym e) in
+        with_views (released shows.core id 0 k.view p o)
+        (good_released lawful allowed g shows.core id 0 k.view p o shows.good carries) refl
+        (λ i. slice_set (shows.depicts.views_are i) id (now i))
+
+  -- a note is split off a seat whose own caller lets go of a version
+  pub notes : (id : ℕ) (k : Knowledge U) (o : Option Known)
+      → Splits {S = S} (Shows lawful allowed g) id k (noting o k) (noted k)
+  notes id k o s shows at =
+      let l : Knowledge U = noting o k in
+      let t : State S (Knowledge U) = let_go id k o s shows at in
+      let cut = cuts id l l (noted k) (sym (append-nil l.view.parts)) refl refl (λ h b. b)
+      (λ h. nothing_begins h) t (lets_go id k o s shows at k.view.parts refl) (set_here s.views id k l at) in
+      subst (λ (vs : List (Knowledge U)). Shows lawful allowed g (record s { views = vs ++ noted k ∷ [] }))
+      (set_twice s.views id l) cut
 
   pub unites : (id : ℕ) (k : Knowledge U) (other : ℕ) (l : Knowledge U)
       → Joins {S = S} (Shows lawful allowed g) id k other l (met k l) spent
@@ -239,21 +327,21 @@ module _ {S U : Type 0} (lawful : U → PlainStore → Type 0) (allowed : U → 
       let c : Core U = shows.core in
       let v : View U = k.view in
       let w : View U = l.view in
-      let at_c : get_elem? c.views id ≡ some v =
-      ap (λ (i : List (View U)). get_elem? i id) shows.views ∙ at_map seen_by s.views id k at in
+      let at_c : get_elem? c.views id ≡ some v = seat_in s shows id k at in
       let l_there : get_elem? s.views other ≡ some l = sym (set_else s.views id other (met k l) apart)
       ∙ there in
-      let there_c : get_elem? c.views other ≡ some w =
-      ap (λ (i : List (View U)). get_elem? i other) shows.views ∙ at_map seen_by s.views other l l_there in
+      let there_c : get_elem? c.views other ≡ some w = seat_in s shows other l l_there in
       record {
         core = joined c id v other w;
         good = good_join lawful allowed g c id v shows.good at_c other w apart there_c;
-        words = shows.words;
-        views = ap (λ (i : List (View U)). slice_set (slice_set i id (joined_view v w)) other spent_view)
-            shows.views
-            ∙ (ap (λ (i : List (View U)). slice_set i other spent_view) (sym (map-set seen_by s.views id
-            (met k l)))
-            ∙ sym (map-set seen_by (slice_set s.views id (met k l)) other spent));
+        depicts = record {
+          words_are = shows.depicts.words_are;
+          views_are = ap (λ (i : List (View U)). slice_set (slice_set i id (joined_view v w)) other spent_view)
+              shows.depicts.views_are
+              ∙ (ap (λ (i : List (View U)). slice_set i other spent_view) (sym (map-set seen_by s.views id
+              (met k l)))
+              ∙ sym (map-set seen_by (slice_set s.views id (met k l)) other spent));
+        };
         before = λ j u here. ⊎_elim
             (λ (t : (j ≡ other) × (spent ≡ u)). subst (λ (z : Knowledge U). Begins z.before c.heap.history)
             t.1 (nothing_begins c.heap.history))

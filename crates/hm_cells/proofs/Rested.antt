@@ -1,5 +1,5 @@
 -- A pass that lets go of its first idle version, and moves no word.
-use Rattle.std.proofs.Common.{◌≡◌, ℕ, Bool, true, false, nat_lt, length, if◌then◌else◌, List, [], ◌∷◌, get_or, Option, Some, None, IfSome, Contains, is_some, refl, sym, ap, ◌∙◌, subst, inl, inr}
+use Rattle.std.proofs.Common.{◌≡◌, ℕ, Bool, true, false, nat_lt, length, if◌then◌else◌, List, [], ◌∷◌, get_or, Option, Some, None, IfSome, Contains, is_some, refl, sym, ap, ◌∙◌, subst, inl, inr, ◌+◌, arith}
 use Rattle.std.proofs.lemmas.List.Elements.{All-contains_itself}
 use Rattle.atomic_table.specs.declared.shared.Seat.{Seat}
 use Rattle.hm_shape.specs.declared.shape.Shape.{Shape}
@@ -8,13 +8,19 @@ use Rattle.hm_model.specs.declared.entry.Entry.{Entry}
 use Rattle.hm_model.specs.Store.{PlainStore}
 use Rattle.hm_moves.specs.declared.part.Known.{Known}
 use Rattle.hm_moves.specs.declared.part.Part.{Part}
-use Rattle.hm_moves.specs.Moving.{without}
+use Rattle.hm_moves.specs.After.{without, letting}
 use Rattle.hm_moves.specs.Good.{Begins, longer}
 use Rattle.hm_cells.specs.declared.knowledge.Knowledge.{Knowledge}
 use Rattle.hm_cells.specs.Grips.{Gripped}
 use Rattle.hm_cells.specs.Facts.{Facts, IsAmong, IsSound, IsSure, find_version, first_idle, names_at, sight_of}
-use Rattle.hm_cells.specs.Calls.{Meets, letting, rested}
-use Rattle.hm_cells.specs.Shows.{IsSeated, Looked, Looks, caller_in, facts_of}
+use Rattle.hm_cells.specs.Calls.{Meets, rested}
+use Rattle.hm_moves.proofs.Places.{at_longer, set_here}
+use Rattle.atomic_table.specs.Table.{Me}
+use Rattle.hm_cells.specs.Shows.{first_letting, met, noting, IsSeated, Looked, LookTells, caller_in, facts_of}
+use Rattle.hm_cells.proofs.Moved.{first_in}
+use Rattle.hm_cells.proofs.Sure.{sure_let}
+use mathlib.Core.Option.{some, some-injective, some-ne-none}
+use lib.ListN.{get_elem?}
 use Rattle.hm_cells.proofs.Found.{IsNamed, among, apart_without, found_without, idle_other, names_stay}
 use Rattle.hm_cells.proofs.Entered.{goes_on}
 
@@ -32,7 +38,7 @@ twice xs ys = go (nat_lt (length xs) (length ys)) refl
         ap (longer xs) is ∙ (longer_self xs ∙ sym is)
 
 module _ {U : Type 0} (lawful : U → PlainStore → Type 0) (allowed : U → PlainStore → Entry → Type 0) where
-  module _ (s : Facts U) (sound : IsSound lawful allowed s) (seen : List Entry) where
+  module _ (s : Facts U) (sound : IsSound lawful allowed s) (seen : List Entry) (steps : ℕ) where
     abbrev idle : Option Known
     idle = first_idle s.roots s.hand s.part.hands.held
 
@@ -51,10 +57,9 @@ module _ {U : Type 0} (lawful : U → PlainStore → Type 0) (allowed : U → Pl
     rooted (Some v) c h = still v (inl c) h
 
     pub sound_rested : IsSure lawful allowed seen (letting s.part idle)
-        → IsSound lawful allowed (rested s seen)
+        → IsSound lawful allowed (rested s seen steps)
     sound_rested sure = record {
       sure = sure;
-      region = sound.region;
       count = sound.count;
       places = sound.places;
       apart = apart_without s.part.hands.held idle sound.apart;
@@ -65,82 +70,168 @@ module _ {U : Type 0} (lawful : U → PlainStore → Type 0) (allowed : U → Pl
           (sound.handed i d low);
     }
 
-    pub names_rested : names_at (rested s seen) ≡ names_at s
+    pub names_rested : names_at (rested s seen steps) ≡ names_at s
     names_rested = names_stay s.part.hands.held (without s.part.hands.held idle) s.roots
         (λ v k c e. stays v k (inl c) e) sound.rooted
 
-  -- a seat that carries the pass's caller, and looks at the Table
-  module _ (seat before seat' : Seat (Unit {0}) (Knowledge U)) (grip : Gripped U) (shape : Shape)
-      (number used : ℕ)
-      (seated : IsSeated lawful allowed seat (facts_of seat grip) shape number used)
-      (parts : before.me.0.view.parts ≡ (facts_of seat grip).part ∷ []) (none : before.me.1 ≡ [])
-      (looks : Looks lawful allowed (first_idle grip.roots grip.hand (caller_in grip.site
-      before.me.0.view.parts).hands.held)
-      before.me.0 seat'.me.0)
-      (table : seat'.table_id ≡ seat.table_id) (slots : seat'.me.1 ≡ before.me.1) where
+  -- a seat of the pass's caller that knows what the pass knew once it rested
+  module _ (seat seat' : Seat (Unit {0}) (Knowledge U)) (grip : Gripped U) (shape : Shape)
+      (number to used : ℕ)
+      (seated : IsSeated lawful allowed seat (facts_of seat grip) shape number to used)
+      (seen : List Entry) (steps : ℕ)
+      (there : get_elem? seat'.me.0.view.parts 0
+      ≡ some (letting (facts_of seat grip).part
+      (first_idle grip.roots grip.hand (facts_of seat grip).part.hands.held)))
+      (sees : seat'.me.0.view.seen ≡ seen) (counts : seat'.me.0.steps ≡ seat.me.0.steps + steps)
+      (sure : IsSure lawful allowed seen (letting (facts_of seat grip).part
+      (first_idle grip.roots grip.hand (facts_of seat grip).part.hands.held)))
+      (table : seat'.table_id ≡ seat.table_id) (slots : seat'.me.1 ≡ []) where
     abbrev s : Facts U
     s = facts_of seat grip
 
-    abbrev seen : List Entry
-    seen = before.me.0.view.seen
+    abbrev left : Part U
+    left = letting s.part (first_idle s.roots s.hand s.part.hands.held)
 
-    abbrev o : Option Known
-    o = first_idle s.roots s.hand s.part.hands.held
+    part_is : (facts_of seat' grip).part ≡ left
+    part_is = first_in grip.site seat'.me.0.view.parts left there
 
-    looked : Looked lawful allowed o before.me.0 s.part seat'.me.0
-    looked = subst (λ (ps : List (Part U)). Looked lawful allowed
-        (first_idle grip.roots grip.hand (caller_in grip.site ps).hands.held) before.me.0 s.part seat'.me.0)
-        parts (looks s.part parts)
-
-    parts_are : seat'.me.0.view.parts ≡ letting s.part o ∷ []
-    parts_are = ap (λ (k : Knowledge U). k.view.parts) looked.is
-
-    part_is : (facts_of seat' grip).part ≡ letting s.part o
-    part_is = ap (caller_in grip.site) parts_are
-
-    pub rested_is : facts_of seat' grip ≡ rested s seen
+    pub rested_is : facts_of seat' grip ≡ rested s seen steps
     rested_is = λ i. record {
       cells = table i;
-      seen = (looked.is i).view.seen;
+      seen = sees i;
       part = part_is i;
       roots = grip.roots;
       hand = grip.hand;
+      steps = counts i;
     }
 
     pub sound_now : IsSound lawful allowed (facts_of seat' grip)
-    sound_now = subst (IsSound lawful allowed) (sym rested_is) (sound_rested s seated.sound seen looked.sure)
+    sound_now = subst (IsSound lawful allowed) (sym rested_is) (sound_rested s seated.sound seen steps sure)
 
     pub names_now : names_at (facts_of seat' grip) ≡ names_at s
-    names_now = ap names_at rested_is ∙ names_rested s seated.sound seen
+    names_now = ap names_at rested_is ∙ names_rested s seated.sound seen steps
 
-    pub seated_now : IsSeated lawful allowed seat' (facts_of seat' grip) shape number used
+    pub seated_now : IsSeated lawful allowed seat' (facts_of seat' grip) shape number to used
     seated_now = record {
-      alone = parts_are ∙ ap (λ (q : Part U). q ∷ []) (sym part_is);
-      none = slots ∙ none;
+      own = there ∙ ap some (sym part_is);
+      none = slots;
       shape_is = ap (λ (q : Part U). q.site.shape) part_is ∙ seated.shape_is;
       number_is = ap (λ (q : Part U). q.number) part_is ∙ seated.number_is;
+      to_is = ap (λ (q : Part U). q.draft.region) part_is ∙ seated.to_is;
       used_is = ap (λ (q : Part U). q.draft.used) part_is ∙ seated.used_is;
       sound = sound_now;
     }
 
-    -- where it had met another, it goes on
-    pub meets_now : (other : List Entry) → seen ≡ longer s.seen other → before.me.0.before ≡ s.seen
-        → Meets lawful allowed s other (facts_of seat' grip)
-    meets_now other is was =
-        let begins : Begins s.seen (longer s.seen (longer s.seen other)) =
-        subst (λ (l : List Entry). Begins s.seen (longer s.seen l)) is
-        (subst (λ (l : List Entry). Begins l (longer l seen)) was looked.begins) in
+  -- a seat from which a note was split off
+  module _ (seat seat' : Seat (Unit {0}) (Knowledge U)) (grip : Gripped U) (shape : Shape)
+      (number to used : ℕ)
+      (seated : IsSeated lawful allowed seat (facts_of seat grip) shape number to used)
+      (kept : seat'.me ≡ (
+        noting (first_idle grip.roots grip.hand (facts_of seat grip).part.hands.held)
+            seat.me.0,
+        seat.me.1,
+      )) (table : seat'.table_id ≡ seat.table_id) where
+    abbrev o : Option Known
+    o = first_idle grip.roots grip.hand (facts_of seat grip).part.hands.held
+
+    first_let : (ps : List (Part U)) (p : Part U) → get_elem? ps 0 ≡ some p
+        → get_elem? (first_letting ps o) 0 ≡ some (letting p o)
+    first_let [] p e = absurd (some-ne-none p (sym e))
+    first_let (q ∷ qs) p e = ap (λ (r : Part U). some (letting r o)) (some-injective q p e)
+
+    pub split_rests : (facts_of seat' grip ≡ rested (facts_of seat grip) (facts_of seat grip).seen 1)
+        × (names_at (facts_of seat' grip) ≡ names_at (facts_of seat grip))
+        × IsSeated lawful allowed seat' (facts_of seat' grip) shape number to used
+    split_rests =
+        let there = ap (λ (m : Me (Unit {0}) (Knowledge U)). get_elem? m.0.view.parts 0) kept
+        ∙ first_let seat.me.0.view.parts (facts_of seat grip).part seated.own in
+        let sees = ap (λ (m : Me (Unit {0}) (Knowledge U)). m.0.view.seen) kept in
+        let counts = ap (λ (m : Me (Unit {0}) (Knowledge U)). m.0.steps) kept in
+        let slots = ap (λ (m : Me (Unit {0}) (Knowledge U)). m.1) kept ∙ seated.none in
+        let sure = sure_let lawful allowed (facts_of seat grip).seen (facts_of seat grip).part o
+        seated.sound.sure in (
+          rested_is seat seat' grip shape number to used seated (facts_of seat grip).seen 1 there sees counts
+              sure table slots,
+          names_now seat seat' grip shape number to used seated (facts_of seat grip).seen 1 there sees counts
+              sure table slots,
+          seated_now seat seat' grip shape number to used seated (facts_of seat grip).seen 1 there sees counts
+              sure table slots,
+        )
+
+  -- a seat that met another carries its own caller first
+  pub own_met : (seat before : Seat (Unit {0}) (Knowledge U)) (grip : Gripped U) (shape : Shape)
+      (number to used : ℕ) → IsSeated lawful allowed seat (facts_of seat grip) shape number to used
+      → (other : Knowledge U) → before.me ≡ (met seat.me.0 other, seat.me.1)
+      → get_elem? before.me.0.view.parts 0 ≡ some (facts_of seat grip).part
+  own_met seat before grip shape number to used seated other met_is =
+      ap (λ (m : Me (Unit {0}) (Knowledge U)). get_elem? m.0.view.parts 0) met_is
+      ∙ at_longer seat.me.0.view.parts other.view.parts 0 (facts_of seat grip).part seated.own
+
+  -- it looks at the Table
+  module _ (seat before seat' : Seat (Unit {0}) (Knowledge U)) (grip : Gripped U) (shape : Shape)
+      (number to used : ℕ)
+      (seated : IsSeated lawful allowed seat (facts_of seat grip) shape number to used)
+      (other : Knowledge U) (met_is : before.me ≡ (met seat.me.0 other, seat.me.1))
+      (looks : LookTells lawful allowed (first_idle grip.roots grip.hand (caller_in grip.site
+      before.me.0.view.parts).hands.held)
+      0 before.me.0 seat'.me.0)
+      (table : seat'.table_id ≡ seat.table_id) (slots : seat'.me.1 ≡ before.me.1) where
+    abbrev pass : Facts U
+    pass = facts_of seat grip
+
+    abbrev idle_met : Option Known
+    idle_met = first_idle pass.roots pass.hand pass.part.hands.held
+
+    abbrev both : List Entry
+    both = longer pass.seen other.view.seen
+
+    there_met : get_elem? before.me.0.view.parts 0 ≡ some pass.part
+    there_met = own_met seat before grip shape number to used seated other met_is
+
+    looked : Looked lawful allowed idle_met before.me.0 0 pass.part seat'.me.0
+    looked = subst (λ (q : Part U). Looked lawful allowed
+        (first_idle grip.roots grip.hand q.hands.held) before.me.0 0 pass.part seat'.me.0)
+        (first_in grip.site before.me.0.view.parts pass.part there_met) (looks pass.part there_met)
+
+    sees_met : before.me.0.view.seen ≡ both
+    sees_met = ap (λ (m : Me (Unit {0}) (Knowledge U)). m.0.view.seen) met_is
+
+    there_now : get_elem? seat'.me.0.view.parts 0 ≡ some (letting pass.part idle_met)
+    there_now = ap (λ (k : Knowledge U). get_elem? k.view.parts 0) looked.is
+        ∙ set_here before.me.0.view.parts 0 pass.part (letting pass.part idle_met) there_met
+
+    sees_now : seat'.me.0.view.seen ≡ both
+    sees_now = ap (λ (k : Knowledge U). k.view.seen) looked.is ∙ sees_met
+
+    counts_now : seat'.me.0.steps ≡ seat.me.0.steps + 2
+    counts_now =
+        let a = ap (λ (k : Knowledge U). k.steps) looked.is in
+        let b = ap (λ (m : Me (Unit {0}) (Knowledge U)). m.0.steps) met_is in omega arith
+
+    sure_now : IsSure lawful allowed both (letting pass.part idle_met)
+    sure_now = subst (λ (l : List Entry). IsSure lawful allowed l (letting pass.part idle_met)) sees_met looked.sure
+
+    none_now : seat'.me.1 ≡ []
+    none_now = slots ∙ (ap (λ (m : Me (Unit {0}) (Knowledge U)). m.1) met_is ∙ seated.none)
+
+    pub met_seated : IsSeated lawful allowed seat' (facts_of seat' grip) shape number to used
+    met_seated = seated_now seat seat' grip shape number to used seated both 2 there_now sees_now counts_now sure_now table none_now
+
+    -- the pass goes on
+    pub meets_now : Meets lawful allowed pass other.view.seen (facts_of seat' grip)
+    meets_now =
+        let is = rested_is seat seat' grip shape number to used seated both 2 there_now sees_now counts_now sure_now table none_now in
+        let begins : Begins pass.seen (longer pass.seen both) =
+        subst (λ (l : List Entry). Begins pass.seen (longer pass.seen l)) sees_met
+        (subst (λ (l : List Entry). Begins l (longer l before.me.0.view.seen))
+        (ap (λ (m : Me (Unit {0}) (Knowledge U)). m.0.before) met_is) looked.begins) in
         record {
-          is = rested_is ∙ ap (rested s) is;
-          names = names_now;
-          goes = subst (λ (f : Facts U). Rattle.hm_model.specs.Sight.Goes lawful allowed (sight_of s)
-              (sight_of f) []) (sym rested_is)
-              (goes_on lawful allowed (sight_of s) (sight_of (rested s seen)) record {
-                usage = refl;
-                start =
-                    refl;
-                number = refl;
-              }
-              seated.sound.sure.opened record { history = looked.sure.history; calls = looked.sure.calls }
-              (subst (Begins s.seen) (twice s.seen other ∙ sym is) begins) seated.sound.sure.calls refl);
+          is = is;
+          names = names_now seat seat' grip shape number to used seated both 2 there_now sees_now counts_now sure_now table none_now;
+          goes = subst (λ (f : Facts U). Rattle.hm_model.specs.Sight.Goes lawful allowed (sight_of pass)
+              (sight_of f) []) (sym is)
+              (goes_on lawful allowed (sight_of pass) (sight_of (rested pass both 2))
+              record { usage = refl; start = refl; number = refl }
+              seated.sound.sure.opened record { history = sure_now.history; calls = sure_now.calls }
+              (subst (Begins pass.seen) (twice pass.seen other.view.seen) begins) seated.sound.sure.calls refl);
         }

@@ -8,10 +8,13 @@ use Rattle.hm_model.specs.declared.entry.Entry.{Entry}
 use Rattle.hm_model.specs.Store.{PlainStore}
 use Rattle.hm_moves.specs.declared.part.Known.{Known}
 use Rattle.hm_moves.specs.declared.moving.Act.{Act}
-use Rattle.hm_moves.specs.declared.moving.Act.TheVariants.{LoadStamp, LoadReference, LoadNumber, LoadLink, StoreOwn, Publish, LinkStore}
-use Rattle.hm_moves.specs.Chain.{IsFit}
-use Rattle.hm_moves.specs.Moving.{publishes, is_naming, listed, unless_named, unnamed_from, unnamed, written_with, IsWritten}
-use Rattle.hm_moves.specs.Moving.{field_act}
+use Rattle.hm_moves.specs.declared.moving.Act.TheVariants.{Looks, Builds}
+use Rattle.hm_moves.specs.declared.moving.Look.TheVariants.{LoadStamp, LoadReference, LoadNumber, LoadLink}
+use Rattle.hm_moves.specs.declared.moving.Build.TheVariants.{StoreOwn, Publish, LinkStore}
+use Rattle.hm_moves.specs.Places.{IsFit}
+use Rattle.hm_moves.specs.Acts.{publishes, listed, field_look}
+use Rattle.hm_moves.specs.After.{is_naming, unless_named, unnamed_from, unnamed, written_with}
+use Rattle.hm_moves.specs.Allowed.{IsWritten, done_seen}
 use Rattle.hm_cells.specs.Facts.{Facts, IsHeldAt, IsLookable, IsSound, find_version, first_idle, known_at, lookable, nothing_known}
 use Rattle.hm_cells.specs.Calls.{Takes, taken}
 use Rattle.hm_cells.proofs.Fields.{field_cases}
@@ -20,17 +23,17 @@ use Rattle.hm_cells.proofs.Found.{IsNamed, among, at_place, found_first, idle_ot
 use Rattle.hm_cells.proofs.Ready.{known_look, look_fit}
 
 -- a word of a version, by which act it is loaded
-pub stamp_act : (k : Known) → field_act k 1 ≡ LoadStamp k
-stamp_act k = refl
+pub stamp_look : (k : Known) → field_look k 1 ≡ LoadStamp k
+stamp_look k = refl
 
-pub reference_act : (k : Known) (i : ℕ) → i < 4 → field_act k (2 + i) ≡ LoadReference k i
-reference_act k i low = field_cases (λ act. act ≡ LoadReference k i) k (2 + i) (omega arith) (omega arith)
+pub reference_look : (k : Known) (i : ℕ) → i < 4 → field_look k (2 + i) ≡ LoadReference k i
+reference_look k i low = field_cases (λ l. l ≡ LoadReference k i) k (2 + i) (omega arith) (omega arith)
     (λ e. absurd (omega arith))
     (λ j small e. let same : j ≡ i = omega arith in ap (LoadReference k) same)
     (λ j small e. absurd (omega arith))
 
-pub number_act : (k : Known) (i : ℕ) → i < 10 → field_act k (6 + i) ≡ LoadNumber k i
-number_act k i low = field_cases (λ act. act ≡ LoadNumber k i) k (6 + i) (omega arith) (omega arith)
+pub number_look : (k : Known) (i : ℕ) → i < 10 → field_look k (6 + i) ≡ LoadNumber k i
+number_look k i low = field_cases (λ l. l ≡ LoadNumber k i) k (6 + i) (omega arith) (omega arith)
     (λ e. absurd (omega arith))
     (λ j small e. absurd (omega arith))
     (λ j small e. let same : j ≡ i = omega arith in ap (LoadNumber k) same)
@@ -82,7 +85,7 @@ module _ {U : Type 0} (lawful : U → PlainStore → Type 0) (allowed : U → Pl
 
   look_first : (s : Facts U) (v : Version) (k : Known) → find_version s.part.hands.held v ≡ Some k
       → find_version (lookable s.part) v ≡ Some k
-  look_first s v k e = found_first s.part.hands.held s.part.hands.published v k e
+  look_first s v k e = found_first s.part.hands.held s.part.hands.own v k e
 
   known_is : (s : Facts U) (v : Version) (k : Known) → find_version s.part.hands.held v ≡ Some k
       → known_at s v ≡ k
@@ -96,7 +99,7 @@ module _ {U : Type 0} (lawful : U → PlainStore → Type 0) (allowed : U → Pl
   known_version s v look = (known_look s v look).1
 
   pub known_fit : (s : Facts U) (v : Version) → IsSound lawful allowed s → IsLookable s v
-      → IsFit s.part.site.shape (known_at s v)
+      → IsFit s.part.site.shape (done_seen s.part) (known_at s v)
   known_fit s v sound look = look_fit lawful allowed s v sound look
 
   -- a version that is held is what is known of its number
@@ -218,7 +221,7 @@ module _ {U : Type 0} (lawful : U → PlainStore → Type 0) (allowed : U → Pl
     written_is = ap (λ (f : Facts U). f.part.draft.written) took.is
 
     -- such a word stays written, where the act publishes nothing and stores another word or none
-    pub written_stays : (j w : ℕ) → publishes act x ≡ None → ((i word : ℕ) → act ≡ StoreOwn i word → i ≢ j)
+    pub written_stays : (j w : ℕ) → publishes act x ≡ None → ((i word : ℕ) → act ≡ Builds (StoreOwn i word) → i ≢ j)
         → IsWritten s.part.draft.written j w → IsSafe j w → IsWritten t.part.draft.written j w
     written_stays j w none other was safe =
         subst (λ (l : List (Option ℕ)). IsWritten l j w) (sym written_is)
@@ -227,19 +230,16 @@ module _ {U : Type 0} (lawful : U → PlainStore → Type 0) (allowed : U → Pl
         (before act other))
         (safe_test j w safe))
       where
-        before : (a : Act) → ((i word : ℕ) → a ≡ StoreOwn i word → i ≢ j)
+        before : (a : Act) → ((i word : ℕ) → a ≡ Builds (StoreOwn i word) → i ≢ j)
             → IsWritten (written_with s.part.draft.written a None) j w
-        before (LoadStamp at) f = was
-        before (LoadReference at i) f = was
-        before (LoadNumber at i) f = was
-        before (LoadLink at want) f = was
-        before (StoreOwn i word) f =
+        before (Looks l) f = was
+        before (Builds (StoreOwn i word)) f =
             get_or-set_other s.part.draft.written i j (Some word) None (λ e. f i word refl (sym e)) ∙ was
-        before (Publish fresh) f = was
-        before (LinkStore at fresh entry) f = was
+        before (Builds (Publish fresh)) f = was
+        before (Builds (LinkStore at fresh entry)) f = was
 
     -- and so does one that the act stores
-    pub written_here : (i word : ℕ) → act ≡ StoreOwn i word → i < 16 → IsSafe i word
+    pub written_here : (i word : ℕ) → act ≡ Builds (StoreOwn i word) → i < 16 → IsSafe i word
         → IsWritten t.part.draft.written i word
     written_here i word is low safe =
         let wide = sound.sure.wide in

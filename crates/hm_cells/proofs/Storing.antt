@@ -14,9 +14,13 @@ use Rattle.hm_model.specs.Store.{PlainStore}
 use Rattle.hm_moves.specs.declared.part.Known.{Known}
 use Rattle.hm_moves.specs.declared.part.Site.{Site}
 use Rattle.hm_moves.specs.declared.part.Part.{Part}
-use Rattle.hm_moves.specs.declared.moving.Act.TheVariants.{StoreOwn, Publish}
+use Rattle.hm_moves.specs.declared.moving.Act.TheVariants.{Looks, Builds}
+use Rattle.hm_moves.specs.declared.moving.Build.TheVariants.{StoreOwn, Publish}
 use Rattle.hm_moves.specs.Chain.{reference_at}
-use Rattle.hm_moves.specs.Moving.{IsFirst, IsKnownName, IsWritten, MayMake, Names, Spells, HasHand, HasRoom, is_naming, next_name, next_version}
+use Rattle.hm_moves.specs.Allowed.{IsFirst, IsKnownName, IsWritten, Names, Spells, HasHand, HasRoom, next_name}
+use Rattle.hm_model.specs.Lawful.{MayMake}
+use Rattle.hm_moves.specs.After.{is_naming}
+use Rattle.hm_moves.specs.Acts.{next_version}
 use Rattle.hm_cells.specs.declared.knowledge.Knowledge.{Knowledge}
 use Rattle.hm_cells.specs.Grips.{Gripped}
 use Rattle.hm_cells.specs.Facts.{Facts, Fits, Made, IsSound, find_version, place_name}
@@ -113,30 +117,14 @@ module _ {U : Type 0} (lawful : U → PlainStore → Type 0) (allowed : U → Pl
       };
     }
 
-    pub create_may : MayPublish lawful allowed s
-        → MayMake (lawful p.site.usage) (allowed p.site.usage) s.seen p.number
-        (Create p.number (next_name p) (drafted_refs p) (drafted_numbers p))
-    create_may may store leads stands = may (next_name p) store
-        record {
-          between = leads.between;
-          others = leads.others;
-          come = leads.come;
-          here = leads.here;
-          store
-              = leads.store;
-        }
-        stands
-
-  module _ (seat : Seat (Unit {0}) (Knowledge U)) (grip : Gripped U) (shape : Shape) (number used : ℕ)
-      (seated : IsSeated lawful allowed seat (facts_of seat grip) shape number used) (o : Facts U)
-      (is : facts_of seat grip ≡ o) (v : Version) (at : IsAt shape v number 0 used) where
+  module _ (seat : Seat (Unit {0}) (Knowledge U)) (grip : Gripped U) (shape : Shape) (number to used : ℕ)
+      (seated : IsSeated lawful allowed seat (facts_of seat grip) shape number to used) (o : Facts U)
+      (is : facts_of seat grip ≡ o) (v : Version) (at : v ≡ next_version o.part) where
     abbrev here : Facts U
     here = facts_of seat grip
 
     pub next_is : next_version here.part ≡ v
-    next_is =
-        (λ i. version_at (seated.shape_is i) (seated.number_is i) (seated.sound.region i) (seated.used_is i))
-        ∙ sym at.number
+    next_is = ap (λ (f : Facts U). next_version f.part) is ∙ sym at
 
     module _ (m : Made U) (fits : Fits o m) where
       word_here : (i : ℕ) → word_at here.part.site.shape (next_version here.part) i ≡ word_at m.site.shape v i
@@ -145,11 +133,11 @@ module _ {U : Type 0} (lawful : U → PlainStore → Type 0) (allowed : U → Pl
 
       pub own_ready : (i word : ℕ) → i < 16 → HasRoom o.part → (is_naming i ≡ true
           → Names o.part.hands.held word)
-          → IsReady lawful allowed seat.me.0 (move_by here (StoreOwn i word))
-          (Stores lawful allowed (move_by here (StoreOwn i word)) (word_at m.site.shape v i) word)
+          → IsReady lawful allowed seat.me.0 (move_by here (Builds (StoreOwn i word))) 0
+          (Stores lawful allowed (move_by here (Builds (StoreOwn i word))) (word_at m.site.shape v i) word)
       own_ready i word low room named =
-          ready lawful allowed seat grip shape number used seated (StoreOwn i word)
-          (Stores lawful allowed (move_by here (StoreOwn i word)) (word_at m.site.shape v i) word)
+          ready lawful allowed seat grip shape number to used seated (Builds (StoreOwn i word))
+          (Stores lawful allowed (move_by here (Builds (StoreOwn i word))) (word_at m.site.shape v i) word)
           record {
             below = low;
             room = subst (λ (f : Facts U). HasRoom f.part) (sym is) room;
@@ -159,7 +147,7 @@ module _ {U : Type 0} (lawful : U → PlainStore → Type 0) (allowed : U → Pl
           record {
             place = word_here i;
             value_is = λ x. refl;
-            blind = λ k l x y t. record {
+            blind = λ k l at x y t. record {
               between = t.between;
               found = t.found;
               others = t.others;
@@ -173,20 +161,22 @@ module _ {U : Type 0} (lawful : U → PlainStore → Type 0) (allowed : U → Pl
           }
 
       pub first_ready : HasRoom o.part → HasHand o.part → IsWhole o.part → MayPublish lawful allowed o
-          → IsReady lawful allowed seat.me.0 (move_by here (Publish (drafted here.part)))
-          (Stores lawful allowed (move_by here (Publish (drafted here.part))) (word_at m.site.shape v 0) 0)
+          → IsReady lawful allowed seat.me.0 (move_by here (Builds (Publish (drafted here.part)))) 0
+          (Stores lawful allowed (move_by here (Builds (Publish (drafted here.part)))) (word_at m.site.shape v 0) 0)
       first_ready room hand whole may =
           let whole' : IsWhole here.part = subst (λ (f : Facts U). IsWhole f.part) (sym is) whole in
-          ready lawful allowed seat grip shape number used seated (Publish (drafted here.part))
-          (Stores lawful allowed (move_by here (Publish (drafted here.part))) (word_at m.site.shape v 0) 0) (
-            first_built here seated.sound whole' (subst (λ (f : Facts U). HasRoom f.part) (sym is) room),
-            create_may here seated.sound whole' (subst (MayPublish lawful allowed) (sym is) may),
-          )
+          ready lawful allowed seat grip shape number to used seated (Builds (Publish (drafted here.part)))
+          (Stores lawful allowed (move_by here (Builds (Publish (drafted here.part)))) (word_at m.site.shape v 0) 0)
+          record {
+            first = first_built here seated.sound whole'
+                (subst (λ (f : Facts U). HasRoom f.part) (sym is) room);
+            may = subst (MayPublish lawful allowed) (sym is) may (next_name here.part);
+          }
           (subst (λ (f : Facts U). HasHand f.part) (sym is) hand)
           record {
             place = word_here 0;
             value_is = λ x. refl;
-            blind = λ k l x y t. record {
+            blind = λ k l at x y t. record {
               between = t.between;
               found = t.found;
               others = t.others;
@@ -201,20 +191,19 @@ module _ {U : Type 0} (lawful : U → PlainStore → Type 0) (allowed : U → Pl
 
     module _ (seat' : Seat (Unit {0}) (Knowledge U)) (x : ℕ) where
       -- a store takes nothing into the hand
-      pub own_hand : (i word : ℕ) → (learns : Learns lawful allowed (move_by here
-          (StoreOwn i word)) seat.me.0 x seat'.me.0)
-          → grip.hand ≡ grip.hand ++ taken (StoreOwn i word) x (learns here.part seated.alone).found
+      pub own_hand : (i word : ℕ) → (learns : Learns lawful allowed (move_by here (Builds (StoreOwn i word))) 0 seat.me.0 x seat'.me.0)
+          → grip.hand ≡ grip.hand ++ taken (Builds (StoreOwn i word)) x (learns here.part seated.own).found
       own_hand i word learns =
-          sym (ap (λ (f : Option Known). grip.hand ++ taken (StoreOwn i word) x f)
-          (learns here.part seated.alone).what
+          sym (ap (λ (f : Option Known). grip.hand ++ taken (Builds (StoreOwn i word)) x f)
+          (learns here.part seated.own).what
           ∙ append-nil grip.hand)
 
       -- what is published is in hand
-      pub first_hand : (learns : Learns lawful allowed (move_by here (Publish
-          (drafted here.part))) seat.me.0 x seat'.me.0)
+      pub first_hand : (learns : Learns lawful allowed (move_by here (Builds (Publish
+          (drafted here.part)))) 0 seat.me.0 x seat'.me.0)
           → grip.hand ++ option_to_list (Some v)
-          ≡ grip.hand ++ taken (Publish (drafted here.part)) x (learns here.part seated.alone).found
+          ≡ grip.hand ++ taken (Builds (Publish (drafted here.part))) x (learns here.part seated.own).found
       first_hand learns =
           ap (λ (w : Version). grip.hand ++ w ∷ []) (sym next_is)
-          ∙ sym (ap (λ (f : Option Known). grip.hand ++ taken (Publish (drafted here.part)) x f)
-          (learns here.part seated.alone).what)
+          ∙ sym (ap (λ (f : Option Known). grip.hand ++ taken (Builds (Publish (drafted here.part))) x f)
+          (learns here.part seated.own).what)

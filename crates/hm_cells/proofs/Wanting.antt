@@ -7,11 +7,11 @@ use Rattle.hm_model.specs.declared.object.Name.{Name}
 use Rattle.hm_model.specs.declared.root.Root.{Root}
 use Rattle.hm_model.specs.declared.entry.Entry.{Entry}
 use Rattle.hm_model.specs.Store.{PlainStore}
-use Rattle.hm_model.specs.Lawful.{UsageLaws}
+use Rattle.hm_model.specs.Lawful.{UsageLaws, MayMake}
 use Rattle.hm_model.specs.Sight.{name_at, name_of, names_of}
 use Rattle.hm_moves.specs.declared.part.Known.{Known}
 use Rattle.hm_moves.specs.declared.part.Part.{Part}
-use Rattle.hm_moves.specs.Moving.{AreKnown, IsKnownName, MayMake, Reads}
+use Rattle.hm_moves.specs.Allowed.{AreKnown, IsKnownName, Reads}
 use Rattle.hm_cells.specs.declared.want.Want.{Want}
 use Rattle.hm_cells.specs.declared.want.Want.TheVariants.{Nothing, Fetch, Store, StoreIf}
 use Rattle.hm_cells.specs.Facts.{Facts, find_version, place_name, sight_of}
@@ -59,29 +59,30 @@ module _ {U : Type 0} where
 
   module _ (lawful : U → PlainStore → Type 0) (allowed : U → PlainStore → Entry → Type 0)
       (laws : (u : U) → UsageLaws (lawful u) (allowed u)) where
-    -- an entry that reads is always allowed
-    pub want_may : (s : Facts U) (k : Known) (want : Want) → HasLengths want → MayWant s k want
-        → IfSome (wanted s k want) (λ e. Reads (IsKnownName s.part) s.part k e
-        × MayMake (lawful s.part.site.usage) (allowed s.part.site.usage) s.seen s.part.number e)
-    want_may s k Nothing long may = tt
-    want_may s k Fetch long may = (
-      (record { caller = refl; object = refl }, refl),
-      λ store leads stands.
-          (laws s.part.site.usage).fetch store s.part.number k.name k.contents leads.store stands,
+    -- an entry that is wanted reads the version
+    pub want_reads : (s : Facts U) (k : Known) (want : Want) → HasLengths want → MayWant s k want
+        → IfSome (wanted s k want) (Reads (IsKnownName s.part) s.part k)
+    want_reads s k Nothing long may = tt
+    want_reads s k Fetch long may = (record { caller = refl; object = refl }, refl)
+    want_reads s k (Store field) long may = absurd may
+    want_reads s k (StoreIf stamp refs numbers) long may = (
+      record { caller = refl; object = refl },
+      record {
+        names = refs_known s refs;
+        sized = record { four = length-map refs (name_of (sight_of s)) ∙ long.0; ten = long.1 };
+      },
+      may.1,
+      refl,
     )
-    want_may s k (Store field) long may = absurd may
-    want_may s k (StoreIf stamp refs numbers) long may = (
-      (
-        record { caller = refl; object = refl },
-        record {
-          names = refs_known s refs;
-          sized = record { four = length-map refs (name_of (sight_of s)) ∙ long.0; ten = long.1 };
-        },
-        may.1,
-        refl,
-      ),
-      λ store leads stands.
-          (laws s.part.site.usage).changed store s.part.number k.name stamp (names_of
-          (sight_of s) refs) numbers
-          k.contents.stamp leads.store stands,
-    )
+
+    -- and is always allowed
+    pub want_may : (s : Facts U) (k : Known) (want : Want) → MayWant s k want
+        → IfSome (wanted s k want)
+        (MayMake (lawful s.part.site.usage) (allowed s.part.site.usage) s.seen s.part.number)
+    want_may s k Nothing may = tt
+    want_may s k Fetch may = λ store leads stands.
+        (laws s.part.site.usage).fetch store s.part.number k.name k.contents leads.store stands
+    want_may s k (Store field) may = absurd may
+    want_may s k (StoreIf stamp refs numbers) may = λ store leads stands.
+        (laws s.part.site.usage).changed store s.part.number k.name stamp (names_of (sight_of s) refs) numbers
+        k.contents.stamp leads.store stands

@@ -19,9 +19,11 @@ use Rattle.hm_moves.specs.declared.part.Known.{Known}
 use Rattle.hm_moves.specs.declared.part.Part.{Part}
 use Rattle.hm_moves.specs.declared.moving.Act.{Act}
 use Rattle.hm_moves.specs.declared.moving.Move.{Move}
-use Rattle.hm_moves.specs.Moving.{entry_of, publishes, listed, part_after, seen_after, unnamed, without, next_name, next_version, IsWritten, IsBuilt}
-use Rattle.hm_moves.specs.Good.{Found, longer}
-use Rattle.hm_moves.specs.Moving.{AreWrittenFrom}
+use Rattle.hm_moves.specs.Acts.{entry_of, publishes, listed, next_version}
+use Rattle.hm_moves.specs.After.{part_after, seen_after, unnamed, without, letting}
+use Rattle.hm_moves.specs.Allowed.{next_name, IsWritten, IsBuilt, AreWrittenFrom}
+use Rattle.hm_moves.specs.Told.{Found}
+use Rattle.hm_moves.specs.Good.{longer}
 use Rattle.hm_cells.specs.declared.want.Want.{Want}
 use Rattle.hm_cells.specs.declared.want.WantField.{WantField}
 use Rattle.hm_cells.specs.declared.want.WantField.TheVariants as want
@@ -55,39 +57,19 @@ module _ {U : Type 0} where
 
   -- the pass after an act that found the word x, which names `found`, where others made entries meanwhile
   abbrev pub after : Facts U → Act → List Entry → ℕ → Option Known → Facts U
-  after s act between x found = record {
-    cells = s.cells;
+  after s act between x found = record s {
     seen = seen_after s.seen (s.seen ++ between) (entry_of s.part.number act x);
     part = part_after s.part (move_by s act) x found;
-    roots = s.roots;
     hand = s.hand ++ taken act x found;
+    steps = s.steps + 1;
   }
 
-  -- a caller lets go of a held version, and of nothing else
-  abbrev pub letting : Part U → Option Known → Part U
-  letting p let_go = record {
-    site = p.site;
-    number = p.number;
-    draft = record {
-      region = p.draft.region;
-      used = p.draft.used;
-      written = unnamed let_go p.draft.written;
-    };
-    hands = record {
-      held = without p.hands.held let_go;
-      published = p.hands.published;
-    };
-    mine = p.mine;
-  }
-
-  -- the pass after a step that moves no word, by which it has seen so much
-  abbrev pub rested : Facts U → List Entry → Facts U
-  rested s seen = record {
-    cells = s.cells;
+  -- the pass after steps that move no word, by which it has seen so much
+  abbrev pub rested : Facts U → List Entry → ℕ → Facts U
+  rested s seen steps = record s {
     seen = seen;
     part = letting s.part (first_idle s.roots s.hand s.part.hands.held);
-    roots = s.roots;
-    hand = s.hand;
+    steps = s.steps + steps;
   }
 
   -- a word of the caller's next version, and 0 where it is not written
@@ -197,7 +179,7 @@ module _ {U : Type 0} where
     Tells None c d = (d.seen ≡ c.seen) × (d.mine ≡ c.mine)
     Tells (Some e) c d = Enters lawful allowed c d e
 
-    -- a call is one move of the machine, by an act that found the word x
+    -- a call is one move of the machine, and one step, by an act that found the word x
     pub record Takes (s : Facts U) (act : Act) (x : ℕ) (t : Facts U) : Type 0 where
       -- what others made since, and the version that the word named
       pub between : List Entry
@@ -211,9 +193,10 @@ module _ {U : Type 0} where
       pub holds_new : IfSome (publishes act x) (Contains t.part.hands.held)
       pub tells : Tells (entry_of s.part.number act x) (sight_of s) (sight_of t)
 
-    -- a call is a meeting: the pass has then seen the longer of two histories, and goes on without an entry
+    -- a call is a meeting: the pass has then seen the longer of two histories, and goes on without an entry; it
+    -- took two steps, the joining and the load that tells what was seen
     pub record Meets (s : Facts U) (other : List Entry) (t : Facts U) : Type 0 where
-      pub is : t ≡ rested s (longer s.seen other)
+      pub is : t ≡ rested s (longer s.seen other) 2
       pub names : names_at t ≡ names_at s
       pub goes : Goes lawful allowed (sight_of s) (sight_of t) []
 

@@ -16,23 +16,25 @@ use Rattle.hm_model.specs.Sight.{Sight}
 use Rattle.hm_moves.specs.declared.part.Known.{Known}
 use Rattle.hm_moves.specs.declared.part.Site.{Site}
 use Rattle.hm_moves.specs.declared.part.Part.{Part}
-use Rattle.hm_moves.specs.Chain.{IsFit}
-use Rattle.hm_moves.specs.Moving.{is_naming, is_version, IsWritten, Names, MayLookInto}
-use Rattle.hm_moves.specs.Good.{Begins}
+use Rattle.hm_moves.specs.Places.{IsFit}
+use Rattle.hm_moves.specs.After.{is_naming, is_version}
+use Rattle.hm_moves.specs.Allowed.{IsWritten, Names, MayLookInto, done_seen}
+use Rattle.hm_moves.specs.Good.{AreApart, Begins}
 
 -- which cells, and what all their seats agree on
 pub record Made (U : Type 0) : Type 0 where
   pub table : TableId
   pub site : Site U
 
--- which cells a pass was made with, the history that it has seen, its caller, and the versions at its root
--- places and in its hand
+-- which cells a pass was made with, the history that it has seen, its caller, the versions at its root places
+-- and in its hand, and how many steps its calls took
 pub record Facts (U : Type 0) : Type 0 where
   pub cells : TableId
   pub seen : List Entry
   pub part : Part U
   pub roots : List (Option Version)
   pub hand : List Version
+  pub steps : ℕ
 
 -- a version is found among known ones by its number
 abbrev pub find_version : List Known → Version → Option Known
@@ -71,15 +73,10 @@ abbrev pub without_first : Version → List Version → List Version
 without_first v [] = []
 without_first v (w ∷ ws) = if v.0 == w.0 then ws else w ∷ without_first v ws
 
--- no two of these versions have one number
-abbrev pub AreApart : List Known → Type 0
-AreApart [] = Unit {0}
-AreApart (k ∷ ks) = (list_any (is_version k) ks ≡ false) × AreApart ks
-
 module _ {U : Type 0} where
   -- what a caller may look into, first what it holds
   abbrev pub lookable : Part U → List Known
-  lookable p = p.hands.held ++ p.hands.published
+  lookable p = p.hands.held ++ p.hands.own
 
   -- a pass may look into a version
   abbrev pub IsLookable : Facts U → Version → Type 0
@@ -97,7 +94,7 @@ module _ {U : Type 0} where
   abbrev pub names_at : Facts U → List (Option Name)
   names_at s = map (place_name s.part.hands.held) s.roots
 
-  -- a caller's room is what is left of its region
+  -- a caller's room is what is left of its To region
   abbrev pub room_of : Part U → ℕ
   room_of p = p.site.shape.versions - p.draft.used
 
@@ -108,7 +105,7 @@ module _ {U : Type 0} where
     start = s.part.site.start;
     number = s.part.number;
     seen = s.seen;
-    mine = s.part.mine;
+    mine = s.part.calls.mine;
     roots = names_at s;
     room = room_of s.part;
     copying = false;
@@ -121,23 +118,11 @@ module _ {U : Type 0} where
 
   -- one root place names a version, or none
   abbrev pub with_root : Facts U → Root → Option Version → Facts U
-  with_root s r v = record {
-    cells = s.cells;
-    seen = s.seen;
-    part = s.part;
-    roots = slice_set s.roots r.0 v;
-    hand = s.hand;
-  }
+  with_root s r v = record s { roots = slice_set s.roots r.0 v }
 
   -- the hand has other versions
   abbrev pub with_hand : Facts U → List Version → Facts U
-  with_hand s hand = record {
-    cells = s.cells;
-    seen = s.seen;
-    part = s.part;
-    roots = s.roots;
-    hand = hand;
-  }
+  with_hand s hand = record s { hand = hand }
 
   -- a pass is at rest where nothing is in hand, and few versions are held
   pub record IsAtRest (s : Facts U) : Type 0 where
@@ -153,28 +138,28 @@ module _ {U : Type 0} where
     -- of itself a caller is sure of this, at every moment of the machine
     pub record IsSure (seen : List Entry) (p : Part U) : Type 0 where
       pub number : p.number < p.site.shape.callers
+      pub region : p.draft.region < p.site.shape.regions
       pub room : p.draft.used ≤ p.site.shape.versions
       pub wide : length p.draft.written ≡ VERSION_WORDS
       -- the words that it has written name versions that it holds
       pub named : (j w : ℕ) → is_naming j ≡ true → IsWritten p.draft.written j w
           → Names p.hands.held w
       -- what it may look into is in the heap, and no two versions have one number
-      pub fit : (k : Known) → MayLookInto p k → IsFit p.site.shape k
+      pub fit : (k : Known) → MayLookInto p k → IsFit p.site.shape (done_seen p) k
       pub once : (k m : Known) → MayLookInto p k → MayLookInto p m
           → m.version.0 ≡ k.version.0 → m ≡ k
       -- what was seen is a lawful history behind the opening, with the caller's entries
-      pub calls : calls_of p.number seen ≡ p.mine
+      pub calls : calls_of p.number seen ≡ p.calls.mine
       pub opened : Begins (opening_of p.site.start) seen
       pub history : IsLawful (lawful p.site.usage) (allowed p.site.usage) p.site.start seen
 
-    -- a pass is sound where its caller is sure, and has published into its first region alone, in order of
+    -- a pass is sound where its caller is sure, and has its own versions in its To region alone, in order of
     -- place; where it holds each version once; and where what its 256 root places and its hand name is held
     pub record IsSound (s : Facts U) : Type 0 where
       pub sure : IsSure s.seen s.part
-      pub region : s.part.draft.region ≡ 0
-      pub count : length s.part.hands.published ≡ s.part.draft.used
-      pub places : (i : ℕ) (k : Known) → slice_get s.part.hands.published i ≡ Some k
-          → k.version ≡ version_at s.part.site.shape s.part.number 0 i
+      pub count : length s.part.hands.own ≡ s.part.draft.used
+      pub places : (i : ℕ) (k : Known) → slice_get s.part.hands.own i ≡ Some k
+          → k.version ≡ version_at s.part.site.shape s.part.number s.part.draft.region i
       pub apart : AreApart s.part.hands.held
       pub wide : length s.roots ≡ 256
       pub rooted : All (λ r. IfSome r (IsHeldAt s)) s.roots

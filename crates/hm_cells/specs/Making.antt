@@ -11,36 +11,18 @@ use Rattle.hm_moves.specs.declared.part.Site.{Site}
 use Rattle.hm_moves.specs.declared.part.Part.{Part}
 use Rattle.hm_moves.specs.declared.part.View.{View}
 use Rattle.hm_moves.specs.Chain.{IsPublished, AreTrue, link_of}
-use Rattle.hm_moves.specs.Moving.{view}
+use Rattle.hm_moves.specs.After.{view}
 use Rattle.hm_moves.specs.Fresh.{common_known, fresh_index, fresh_part}
 use Rattle.hm_cells.specs.Facts.{Facts}
+use Rattle.hm_moves.specs.FirstWords.{AreFirst}
 
 -- root place 0 names the common object's version, and no other place is set
 abbrev pub first_roots : Start → List (Option Version)
 first_roots start = slice_set (replicate 256 None) 0 (Some (common_known start).version)
 
--- words are those of a fresh heap where they say what the starting objects hold, and each link is 0
-pub record AreFirst (s : Shape) (start : Start) (words : List ℕ) : Type 0 where
-  pub sized : IsSizedStart start
-  pub wide : length words ≡ word_count s
-  pub contents : AreTrue s words (fresh_index start)
-  pub links : (k : _) → IsPublished (fresh_index start) k → link_of s words k ≡ 0
-
 -- there are such words
 abbrev pub HasFirst : Shape → Start → Type 0
 HasFirst s start = (words : List ℕ) × AreFirst s start words
-
--- the words of a version of a new object: no link, stamp 0, its references and its numbers
-abbrev pub version_words : List ℕ → List ℕ → List ℕ
-version_words refs numbers = 0 ∷ (0 ∷ (refs ++ numbers))
-
--- a side object that is given has the next version, without references, and its word names that version; else
--- there is none
-abbrev pub LaysSide : List ℕ → ℕ → Option Numbers → ℕ → List ℕ → ℕ → Type 0
-LaysSide words next None word words' next' = (words' ≡ words) × (next' ≡ next) × (word ≡ 0)
-LaysSide words next (Some numbers) word words' next' =
-    (words' ≡ words ++ version_words (replicate 4 0) numbers)
-    × (next' ≡ next + 1) × (word ≡ next')
 
 -- caller 0 has published the starting objects
 abbrev pub first_used : Start → ℕ → ℕ
@@ -55,6 +37,7 @@ module _ {U : Type 0} where
     part = fresh_part g q;
     roots = first_roots g.start;
     hand = [];
+    steps = 0;
   }
 
   -- those of the callers 0 to n - 1

@@ -1,5 +1,5 @@
 -- The rule of the Table: its words and all views show a good state of the machine.
-use Rattle.std.specs.Prelude.{◌≡◌, ℕ, List, [], ◌∷◌, ◌++◌, ◌==◌, Option, None, IfSome, Contains, map, if◌then◌else◌}
+use Rattle.std.specs.Prelude.{◌≡◌, ℕ, List, [], ◌∷◌, ◌++◌, ◌==◌, Option, None, IfSome, Contains, map, if◌then◌else◌, ◌+◌}
 use mathlib.Core.Option.{some}
 use lib.ListN.{get_elem?}
 use Rattle.atomic_table.specs.Table.{State}
@@ -15,26 +15,37 @@ use Rattle.hm_moves.specs.declared.part.Known.{Known}
 use Rattle.hm_moves.specs.declared.part.Site.{Site}
 use Rattle.hm_moves.specs.declared.part.Part.{Part}
 use Rattle.hm_moves.specs.declared.part.View.{View}
-use Rattle.hm_moves.specs.declared.moving.Act.TheVariants.{StoreOwn}
+use Rattle.hm_moves.specs.declared.moving.Act.TheVariants.{Builds}
+use Rattle.hm_moves.specs.declared.moving.Build.TheVariants.{StoreOwn}
 use Rattle.hm_moves.specs.declared.moving.Move.{Move}
-use Rattle.hm_moves.specs.Moving.{word_of, becomes, entry_of, publishes, next_version, part_after, view, view_after, Enabled}
-use Rattle.hm_moves.specs.Good.{Begins, Core, Good, Found, joined_view, longer, spent_view}
+use Rattle.hm_moves.specs.Acts.{word_of, becomes, entry_of, publishes, next_version}
+use Rattle.hm_moves.specs.After.{part_after, view, view_after, view_letting, letting}
+use Rattle.hm_moves.specs.Allowed.{Enabled}
+use Rattle.hm_moves.specs.Good.{Begins, Core, Good, joined_view, longer, spent_view, Depicts}
+use Rattle.hm_moves.specs.Told.{Found}
 use Rattle.hm_moves.specs.Fresh.{fresh_part}
 use Rattle.hm_cells.specs.declared.knowledge.Knowledge.{Knowledge}
 use Rattle.hm_cells.specs.Grips.{Gripped}
 use Rattle.hm_cells.specs.Facts.{Facts, IsSure, IsSound}
-use Rattle.hm_cells.specs.Calls.{letting}
 
 -- a move that stands for none until a call picks its own
 abbrev pub some_move : Move
-some_move = record { act = StoreOwn 0 0; let_go = None }
+some_move = record { act = Builds (StoreOwn 0 0); let_go = None }
 
 module _ {U : Type 0} where
-  -- what a seat knows, where it has met nobody since it looked
+  -- what a seat knows before its calls take a step, where it has met nobody
   abbrev pub knowledge : View U → Knowledge U
-  knowledge v = record { view = v; before = [] }
+  knowledge v = record { view = v; steps = 0; before = [] }
 
-  -- a seat's one caller; the first one of a fresh heap stands in for none
+  -- what a seat knows after a move of its caller at a place
+  abbrev pub learning : Knowledge U → ℕ → Part U → Move → List Entry → ℕ → Option Known → Knowledge U
+  learning k place p m between x found = record k {
+    view = view_after k.view place (k.view.seen ++ between) p m x found;
+    steps = k.steps + 1;
+    before = [];
+  }
+
+  -- a seat's own caller is its first; the first one of a fresh heap stands in for none
   abbrev pub caller_in : Site U → List (Part U) → Part U
   caller_in g [] = fresh_part g 0
   caller_in g (p ∷ ps) = p
@@ -47,23 +58,45 @@ module _ {U : Type 0} where
     part = caller_in grip.site seat.me.0.view.parts;
     roots = grip.roots;
     hand = grip.hand;
+    steps = seat.me.0.steps;
+  }
+
+  -- a seat's own caller lets go of a version
+  abbrev pub first_letting : List (Part U) → Option Known → List (Part U)
+  first_letting [] let_go = []
+  first_letting (p ∷ ps) let_go = letting p let_go ∷ ps
+
+  -- a seat from which a note is split off keeps all that it knows, and took a step
+  abbrev pub noting : Option Known → Knowledge U → Knowledge U
+  noting let_go k = record k {
+    view = view k.view.seen (first_letting k.view.parts let_go);
+    steps = k.steps + 1;
   }
 
   -- a note has a copy of what was seen, and no caller
   abbrev pub noted : Knowledge U → Knowledge U
   noted k = knowledge (view k.view.seen [])
 
-  -- a seat that meets another keeps in mind what it had seen before
+  -- a seat that meets another keeps in mind what it had seen before, and took a step
   abbrev pub met : Knowledge U → Knowledge U → Knowledge U
-  met k other = record { view = joined_view k.view other.view; before = k.view.seen }
+  met k other = record k {
+    view = joined_view k.view other.view;
+    steps = k.steps + 1;
+    before = k.view.seen;
+  }
 
   -- a seat that was met is spent
   abbrev pub spent : Knowledge U
   spent = knowledge spent_view
 
-  -- a seat that looks at the Table has one caller, which may let go of a version
-  abbrev pub looking : Knowledge U → Part U → Option Known → Knowledge U
-  looking k p let_go = knowledge (view k.view.seen (letting p let_go ∷ []))
+  -- a seat that looks at the Table knows what it had seen before no more, and its caller at a place may let go
+  -- of a version
+  abbrev pub looking : Knowledge U → ℕ → Part U → Option Known → Knowledge U
+  looking k place p let_go = record k {
+    view = view_letting k.view place p let_go;
+    steps = k.steps + 1;
+    before = [];
+  }
 
   -- the cells' words are those of their shape, and the Table has nothing else
   pub record IsLaid (table : TableId) (g : Site U) (shape : Shape) : Type 0 where
@@ -82,18 +115,17 @@ module _ {U : Type 0} where
     pub turns : (x : ℕ) → becomes m.act x ≡ (if x == 0 then link else x)
 
   module _ (lawful : U → PlainStore → Type 0) (allowed : U → PlainStore → Entry → Type 0) where
-    -- the words and the views are those of a good machine, and what a seat had seen before a meeting
-    -- begins its history
+    -- the words and the views depict a good machine, and what a seat had seen before a meeting begins its
+    -- history
     pub record Shows {S : Type 0} (g : Site U) (s : State S (Knowledge U)) : Type 0 where
       pub core : Core U
       pub good : Good lawful allowed g core
-      pub words : core.heap.words ≡ s.words
-      pub views : core.views ≡ map (λ k. k.view) s.views
+      pub depicts : Depicts s.words (map (λ k. k.view) s.views) core
       pub before : (j : ℕ) (k : Knowledge U) → get_elem? s.views j ≡ some k
           → Begins k.before core.heap.history
 
-    -- what a move tells the one caller of a seat, who does not see the machine: x is the word that it found
-    pub record Learnt (m : Move) (k : Knowledge U) (p : Part U) (x : ℕ) (l : Knowledge U)
+    -- what a move tells the caller of a seat, who does not see the machine: x is the word that it found
+    pub record Learnt (m : Move) (k : Knowledge U) (place : ℕ) (p : Part U) (x : ℕ) (l : Knowledge U)
         : Type 0 where
       -- what others made since, and the version that the word named
       pub between : List Entry
@@ -101,34 +133,34 @@ module _ {U : Type 0} where
       pub others : AreOthers p.number between
       pub what : Found m.act x found
       pub by : IfSome (entry_of p.number m.act x) (λ e. caller_of e ≡ p.number)
-      pub is : l ≡ knowledge (view_after k.view 0 (k.view.seen ++ between) p m x found)
+      pub is : l ≡ learning k place p m between x found
       pub sure : IsSure lawful allowed l.view.seen (part_after p m x found)
       -- what was found is held, and what was published is the next version, and held
       pub holds : IfSome found (Contains (part_after p m x found).hands.held)
       pub next : IfSome (publishes m.act x) (λ new. (new.version ≡ next_version p)
           × Contains (part_after p m x found).hands.held new)
 
-    -- so does every move
-    abbrev pub Learns : Move → Knowledge U → ℕ → Knowledge U → Type 0
-    Learns m k x l = (p : Part U) → k.view.parts ≡ p ∷ [] → Learnt m k p x l
+    -- so does every move of the caller at a place
+    abbrev pub Learns : Move → ℕ → Knowledge U → ℕ → Knowledge U → Type 0
+    Learns m place k x l =
+        (p : Part U) → get_elem? k.view.parts place ≡ some p → Learnt m k place p x l
 
-    -- a look tells the one caller of a seat what it is sure of, and that it goes on from what it had seen
-    -- before
-    pub record Looked (let_go : Option Known) (k : Knowledge U) (p : Part U) (l : Knowledge U)
+    -- a look tells the caller of a seat what it is sure of, and that it goes on from what it had seen before
+    pub record Looked (let_go : Option Known) (k : Knowledge U) (place : ℕ) (p : Part U) (l : Knowledge U)
         : Type 0 where
-      pub is : l ≡ looking k p let_go
+      pub is : l ≡ looking k place p let_go
       pub sure : IsSure lawful allowed k.view.seen (letting p let_go)
       pub begins : Begins k.before (longer k.before k.view.seen)
 
-    -- so does every look
-    abbrev pub Looks : Option Known → Knowledge U → Knowledge U → Type 0
-    Looks let_go k l =
-        (p : Part U) → k.view.parts ≡ p ∷ [] → Looked let_go k p l
+    -- so does every look of the caller at a place
+    abbrev pub LookTells : Option Known → ℕ → Knowledge U → Knowledge U → Type 0
+    LookTells let_go place k l =
+        (p : Part U) → get_elem? k.view.parts place ≡ some p → Looked let_go k place p l
 
-    -- a seat carries one caller, which may take the move, and of which this holds
-    pub record IsReady (k : Knowledge U) (m : Move) (P : Part U → Type 0) : Type 0 where
+    -- a seat carries a caller at a place, which may take the move, and of which this holds
+    pub record IsReady (k : Knowledge U) (m : Move) (place : ℕ) (P : Part U → Type 0) : Type 0 where
       pub caller : Part U
-      pub alone : k.view.parts ≡ caller ∷ []
+      pub carries : get_elem? k.view.parts place ≡ some caller
       pub enabled : Enabled lawful allowed k.view.seen caller m
       pub moves : P caller
 
@@ -136,14 +168,15 @@ module _ {U : Type 0} where
     pub record Stores (m : Move) (word value : ℕ) (p : Part U) : Type 0 where
       pub place : word_of p m.act ≡ word
       pub value_is : (x : ℕ) → becomes m.act x ≡ value
-      pub blind : (k l : Knowledge U) (x y : ℕ) → Learnt m k p x l → Learnt m k p y l
+      pub blind : (k l : Knowledge U) (at x y : ℕ) → Learnt m k at p x l → Learnt m k at p y l
 
-    -- a pass is seated where its seat carries its caller alone, and the numbers beside it are the caller's
+    -- a pass is seated where its caller is its seat's own, and the numbers beside it are the caller's
     pub record IsSeated (seat : Seat (Unit {0}) (Knowledge U)) (s : Facts U)
-        (shape : Shape) (number used : ℕ) : Type 0 where
-      pub alone : seat.me.0.view.parts ≡ s.part ∷ []
+        (shape : Shape) (number to used : ℕ) : Type 0 where
+      pub own : get_elem? seat.me.0.view.parts 0 ≡ some s.part
       pub none : seat.me.1 ≡ []
       pub shape_is : s.part.site.shape ≡ shape
       pub number_is : s.part.number ≡ number
+      pub to_is : s.part.draft.region ≡ to
       pub used_is : s.part.draft.used ≡ used
       pub sound : IsSound lawful allowed s

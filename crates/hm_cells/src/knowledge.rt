@@ -1,6 +1,6 @@
 //! What seats know. Contracts and proofs alone have values of these types, but for what a table is told.
-use hm_moves::{Site, View};
 use hm_model::{Entry, Start};
+use hm_moves::{Site, View};
 use hm_shape::{Shape, Version};
 use std::collections::LinkedList;
 
@@ -15,6 +15,8 @@ pub(crate) struct Opening<U> {
 /// What a seat of the cells' Table knows.
 pub(crate) struct Knowledge<U> {
     pub view: View<U>,
+    /// How many steps the calls on its pass took.
+    pub steps: u64,
     /// What it had seen when it met another seat, until it looks at the Table again.
     pub before: LinkedList<Entry>,
 }

@@ -2,7 +2,7 @@
 ghost use Rattle.std.specs.Prelude.{◌≡◌, ◌<◌, ◌≤◌, ◌++◌, [], IfOk, OnOk, replicate};
 ghost use Rattle.hm_model.specs.History.{store_of, opening_of, starting_count};
 ghost use Rattle.hm_cells.specs.Grips.{site_of};
-ghost use Rattle.hm_cells.specs.Making.{AreFirst, HasFirst, LaysSide, version_words};
+ghost use Rattle.hm_cells.specs.Making.{HasFirst};
 
 use crate::grip::Grip;
 use crate::knowledge::{Knowledge, Opening};
@@ -10,7 +10,8 @@ use crate::pass::Pass;
 use crate::table::Cells;
 use atomic_table::Seat;
 use hm_model::{Root, Start, Usage};
-use hm_shape::{Shape, VERSION_WORDS, Version};
+use hm_moves::first_words;
+use hm_shape::{Shape, Version};
 use std::alloc::{AllocError, Global};
 
 /// There was no memory.
@@ -88,7 +89,7 @@ impl<U: Usage> Cells<U> {
 }
 
 impl<U: Usage> Pass<U> {
-    ghost use Rattle.hm_moves.specs.Moving.{view};
+    ghost use Rattle.hm_moves.specs.After.{view};
     ghost use Rattle.hm_cells.specs.Shows.{knowledge};
     ghost use Rattle.hm_cells.specs.Making.{first_used, fresh_pass, newcomer};
 
@@ -117,67 +118,8 @@ impl<U: Usage> Pass<U> {
             grip,
             shape: opening.shape,
             number,
+            to: 0,
             used,
         })
     }
-}
-
-// The words of a fresh Table: the stage and the replies are 0, the first region of each caller is To, and the
-// starting objects are the first versions.
-fn first_words(alloc: Global, shape: Shape, start: Start) -> Result<Vec<u64>, AllocError>
-    requires { starting_count start ≤ shape.versions }
-    ensures { IfOk result (λ words. AreFirst shape start words.items) }
-{
-    let mut words = Vec::with_capacity(alloc, shape.word_count() as usize)?;
-    fill(&mut words, 0, u64::from(shape.callers) + 1)?;
-    fill(&mut words, 1, u64::from(shape.callers))?;
-    let mut next = 0;
-    let [a, b, c, d] = start.sides;
-    let refs = [
-        lay_side(&mut words, &mut next, a)?,
-        lay_side(&mut words, &mut next, b)?,
-        lay_side(&mut words, &mut next, c)?,
-        lay_side(&mut words, &mut next, d)?,
-    ];
-    lay(&mut words, refs, start.numbers)?;
-    let rest = shape.version_count() - start.objects();
-    fill(&mut words, 0, u64::from(VERSION_WORDS) * u64::from(rest))?;
-    Ok(words)
-}
-
-// So many words more.
-fn fill(words: &mut Vec<u64>, word: u64, count: u64) -> Result<(), AllocError>
-    ensures { OnOk result (words.new.items ≡ words.old.items ++ replicate count word) }
-{
-    for _ in 0..count {
-        words.push(word)?;
-    }
-    Ok(())
-}
-
-// The words of a version of a new object.
-fn lay(words: &mut Vec<u64>, refs: [u64; 4], numbers: [u64; 10]) -> Result<(), AllocError>
-    ensures { OnOk result (words.new.items ≡ words.old.items ++ version_words refs numbers) }
-{
-    words.extend_from_slice(&[0, 0])?;
-    words.extend_from_slice(&refs)?;
-    words.extend_from_slice(&numbers)
-}
-
-// The words of a side object, if it is given. Answers the word that names its version.
-fn lay_side(
-    words: &mut Vec<u64>,
-    next: &mut u64,
-    side: Option<[u64; 10]>,
-) -> Result<u64, AllocError>
-    requires { next.old < 4 }
-    ensures { IfOk result (λ word.
-        LaysSide words.old.items next.old side word words.new.items next.new) }
-{
-    let Some(numbers) = side else {
-        return Ok(0);
-    };
-    lay(words, [0; 4], numbers)?;
-    *next += 1;
-    Ok(*next)
 }

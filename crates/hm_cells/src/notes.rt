@@ -31,13 +31,12 @@ impl<U: Usage> Model for Note<U> {
 /// Splits off a note with a copy of what the caller has seen.
 pub fn split<U: Usage>(cells: &Cells<U>, pass: &mut Pass<U>) -> Note<U>
     requires { Fits pass.old cells.now }
-    ensures pass { pass.new ≡ rested pass.old pass.old.seen }
+    ensures pass { pass.new ≡ rested pass.old pass.old.seen 1 }
     ensures names { names_at pass.new ≡ names_at pass.old }
     ensures note { result ≡ record { cells = pass.old.cells; seen = pass.old.seen } }
     ensures sound { IsSound U.lawful U.allowed pass.new }
 {
-    cells.look::<Brand>(&mut pass.seat, &pass.grip);
-    let seat = cells.note_out(&mut pass.seat);
+    let seat = cells.note_out::<Brand>(&mut pass.seat, &pass.grip);
     Note { seat }
 }
 

@@ -21,6 +21,8 @@ pub struct Pass<U: Usage> {
     pub(crate) grip: Grip<U>,
     pub(crate) shape: Shape,
     pub(crate) number: u32,
+    // The caller's To region, and how many of its places are used.
+    pub(crate) to: u32,
     pub(crate) used: u32,
 }
 
@@ -34,11 +36,14 @@ impl<U: Usage> Model for Pass<U> {
     ghost view = { λ p. facts_of p.seat p.grip };
 
     ghost invariant = { λ p.
-        IsSeated U.lawful U.allowed p.seat (facts_of p.seat p.grip) p.shape p.number p.used };
+        IsSeated U.lawful U.allowed p.seat (facts_of p.seat p.grip) p.shape
+        p.number p.to p.used };
 }
 
 impl<U: Usage> Pass<U> {
     ghost use Rattle.hm_model.specs.Sight.{root_of, SetsRoot, Rests};
+    ghost use Rattle.hm_moves.specs.Acts.{next_version};
+    ghost use Rattle.hm_moves.specs.Allowed.{HasRoom};
     ghost use Rattle.hm_cells.specs.Facts.{sight_of, place_name, with_root, with_hand, without_first, IsHeldAt, IsSound};
 
     /// The caller's number.
@@ -86,13 +91,21 @@ impl<U: Usage> Pass<U> {
     /// `i`.
     pub fn published(&self, i: u32) -> Option<Version>
         ensures { result
-            ≡ option_map (λ k. k.version) (slice_get self.now.part.hands.published i) }
+            ≡ option_map (λ k. k.version) (slice_get self.now.part.hands.own i) }
     {
         if i < self.used {
-            Some(Version::at(self.shape, self.number, 0, i))
+            Some(Version::at(self.shape, self.number, self.to, i))
         } else {
             None
         }
+    }
+
+    // The version that the caller writes next: the first place of its To region that is not used.
+    pub(crate) fn next_version(&self) -> Version
+        requires { HasRoom self.now.part }
+        ensures { result ≡ next_version self.now.part }
+    {
+        Version::at(self.shape, self.number, self.to, self.used)
     }
 
     /// Whether the place names an object.

@@ -2,13 +2,17 @@
 ghost use Rattle.std.specs.Prelude.{◌≡◌, ◌<◌, ◌≤◌, ◌^◌, ◌⊎◌, true, None, IfOk};
 ghost use Rattle.hm_shape.specs.declared.version.TheConstants.{FIRST_NUMBER, FIRST_REFERENCE, VERSION_WORDS};
 ghost use Rattle.hm_shape.specs.Words.{naming_word};
-ghost use Rattle.hm_moves.specs.declared.moving.Act.TheVariants as act;
-ghost use Rattle.hm_moves.specs.Chain.{IsFit};
-ghost use Rattle.hm_moves.specs.Moving.{is_naming, next_version, HasHand, HasRoom, Names};
-ghost use Rattle.hm_moves.specs.Moving.{field_act};
+ghost use Rattle.hm_moves.specs.declared.moving.Act.TheVariants.{Looks, Builds};
+ghost use Rattle.hm_moves.specs.declared.moving.Look.TheVariants.{LoadLink};
+ghost use Rattle.hm_moves.specs.declared.moving.Build.TheVariants.{StoreOwn, Publish, LinkStore};
+ghost use Rattle.hm_moves.specs.Places.{IsFit};
+ghost use Rattle.hm_moves.specs.After.{is_naming};
+ghost use Rattle.hm_moves.specs.Acts.{next_version, field_look};
+ghost use Rattle.hm_moves.specs.Allowed.{HasHand, HasRoom, Names, done_seen};
 ghost use Rattle.hm_model.specs.Sight.{MayEnter};
 ghost use Rattle.hm_cells.specs.Facts.{Fits, IsLookable, IsSound, known_at, sight_of};
 ghost use Rattle.hm_cells.specs.Calls.{IsWhole, IsWholeCopy, MayPublish, MayStore, MayWant, Takes, drafted, linked, link_found, stored, turned, version_in, wanted};
+ghost use Rattle.hm_moves.specs.declared.moving.Act.TheVariants.{Builds, Looks};
 
 use crate::pass::Pass;
 use crate::table::Cells;
@@ -31,9 +35,9 @@ pub fn load_field<U: Usage>(
     requires look { IsLookable pass.old v }
     requires word { (0 < i) × (i < VERSION_WORDS) }
     requires hand { HasHand pass.old.part }
-    ensures took { Takes U.lawful U.allowed pass.old (field_act (known_at pass.old v) i) result
+    ensures took { Takes U.lawful U.allowed pass.old (Looks (field_look (known_at pass.old v) i)) result
         pass.new }
-    ensures fit { IsFit pass.old.part.site.shape (known_at pass.old v) }
+    ensures fit { IsFit pass.old.part.site.shape (done_seen pass.old.part) (known_at pass.old v) }
     ensures sound { IsSound U.lawful U.allowed pass.new }
 {
     let word = cells.load::<Brand>(&mut pass.seat, &pass.grip, v, i, &Want::Nothing);
@@ -71,9 +75,9 @@ pub fn load_link<U: Usage>(
     requires want { MayWant pass.old (known_at pass.old v) want }
     requires hand { HasHand pass.old.part }
     ensures took { Takes U.lawful U.allowed pass.old
-        (act.LoadLink (known_at pass.old v) (wanted pass.old (known_at pass.old v) want))
+        (Looks (LoadLink (known_at pass.old v) (wanted pass.old (known_at pass.old v) want)))
         (naming_word result) pass.new }
-    ensures fit { IsFit pass.old.part.site.shape (known_at pass.old v) }
+    ensures fit { IsFit pass.old.part.site.shape (done_seen pass.old.part) (known_at pass.old v) }
     ensures sound { IsSound U.lawful U.allowed pass.new }
 {
     let word = cells.load::<Brand>(&mut pass.seat, &pass.grip, v, LINK, &want);
@@ -89,10 +93,10 @@ pub fn store_own<U: Usage>(cells: &Cells<U>, pass: &mut Pass<U>, i: u32, word: u
     requires room { HasRoom pass.old.part }
     requires word { i < VERSION_WORDS }
     requires named { is_naming i ≡ true → Names pass.old.part.hands.held word }
-    ensures took { Takes U.lawful U.allowed pass.old (act.StoreOwn i word) word pass.new }
+    ensures took { Takes U.lawful U.allowed pass.old (Builds (StoreOwn i word)) word pass.new }
     ensures sound { IsSound U.lawful U.allowed pass.new }
 {
-    let next = Version::at(pass.shape, pass.number, 0, pass.used);
+    let next = pass.next_version();
     cells.store::<Brand>(&mut pass.seat, &pass.grip, next, i, word);
 }
 
@@ -104,12 +108,12 @@ pub fn publish<U: Usage>(cells: &Cells<U>, pass: &mut Pass<U>) -> Version
     requires hand { HasHand pass.old.part }
     requires whole { IsWhole pass.old.part }
     requires allowed { MayPublish U.lawful U.allowed pass.old }
-    ensures took { Takes U.lawful U.allowed pass.old (act.Publish (drafted pass.old.part)) 0
+    ensures took { Takes U.lawful U.allowed pass.old (Builds (Publish (drafted pass.old.part))) 0
         pass.new }
     ensures version { result ≡ next_version pass.old.part }
     ensures sound { IsSound U.lawful U.allowed pass.new }
 {
-    let next = Version::at(pass.shape, pass.number, 0, pass.used);
+    let next = pass.next_version();
     cells.store::<Brand>(&mut pass.seat, &pass.grip, next, LINK, 0);
     pass.used += 1;
     pass.grip.take(Some(next));
@@ -135,14 +139,14 @@ pub fn link_store<U: Usage>(
     requires allowed { MayEnter U.lawful U.allowed (sight_of pass.old)
         (stored pass.old (known_at pass.old v) want) }
     ensures took { Takes U.lawful U.allowed pass.old
-        (act.LinkStore (known_at pass.old v) (linked pass.old (known_at pass.old v) want)
-        (stored pass.old (known_at pass.old v) want))
+        (Builds (LinkStore (known_at pass.old v) (linked pass.old (known_at pass.old v) want)
+        (Some (stored pass.old (known_at pass.old v) want))))
         (link_found result) pass.new }
     ensures version { IfOk result (λ next. next ≡ next_version pass.old.part) }
-    ensures fit { IsFit pass.old.part.site.shape (known_at pass.old v) }
+    ensures fit { IsFit pass.old.part.site.shape (done_seen pass.old.part) (known_at pass.old v) }
     ensures sound { IsSound U.lawful U.allowed pass.new }
 {
-    let next = Version::at(pass.shape, pass.number, 0, pass.used);
+    let next = pass.next_version();
     let word = cells.exchange::<Brand>(&mut pass.seat, &pass.grip, v, next, &want);
     match Version::named(word) {
         None => {

@@ -6,8 +6,8 @@ use crate::grip::Grip;
 use crate::knowledge::{Knowledge, Opening};
 use crate::want::Want;
 use atomic_table::{Join, Play, Seat, Split, Table, TableRule};
-use hm_moves::Move;
 use hm_model::Usage;
+use hm_moves::Move;
 use hm_shape::{LINK, Shape, Version};
 use std::alloc::{AllocError, Global};
 use std::marker::{Brand, Model, PhantomData};
@@ -27,42 +27,48 @@ impl<U: Usage> TableRule<(), Knowledge<U>, Opening<U>> for ByTheMachine {
 
 /// The move that a call makes. Each call picks it.
 pub(crate) trait Moving {
+    ghost use Rattle.std.specs.Prelude.{ℕ};
     ghost use Rattle.hm_moves.specs.declared.moving.Move.{Move};
 
     ghost picked: { Move };
+
+    // The place at which the seat carries that caller.
+    ghost place: { ℕ };
 }
 
 impl Moving for Brand {
     ghost use Rattle.hm_cells.specs.Shows.{some_move};
 
     ghost picked = { some_move };
+
+    ghost place = { 0 };
 }
 
-/// A step that is a move of the seat's caller.
+/// A step that is a move of a caller of the seat.
 pub(crate) struct Moves<J>(PhantomData<J>);
 
 impl<J: Moving, U: Usage> Play<(), Knowledge<U>> for Moves<J> {
     ghost use Rattle.std.specs.Prelude.{◌≡◌};
     ghost use Rattle.hm_cells.specs.Shows.{Learns};
 
-    ghost then = { λ _ m x w. Learns U.lawful U.allowed J.picked m.0 x w.0 × (w.1 ≡ m.1) };
+    ghost then = { λ _ m x w. Learns U.lawful U.allowed J.picked J.place m.0 x w.0 × (w.1 ≡ m.1) };
 }
 
-/// A step that moves no word: the seat's caller lets go of a version, and sees what it is sure of.
+/// A step that moves no word: a caller of the seat lets go of a version, and sees what it is sure of.
 pub(crate) struct Looking<J>(PhantomData<J>);
 
 impl<J: Moving, U: Usage> Play<(), Knowledge<U>> for Looking<J> {
     ghost use Rattle.std.specs.Prelude.{◌≡◌};
-    ghost use Rattle.hm_cells.specs.Shows.{Looks};
+    ghost use Rattle.hm_cells.specs.Shows.{LookTells};
 
-    ghost then = { λ _ m _ w. Looks U.lawful U.allowed J.picked.let_go m.0 w.0 × (w.1 ≡ m.1) };
+    ghost then = { λ _ m _ w. LookTells U.lawful U.allowed J.picked.let_go J.place m.0 w.0 × (w.1 ≡ m.1) };
 }
 
 /// The last caller of a seat gets a seat of its own.
 pub(crate) struct LastOut;
 
 impl<U> Split<Knowledge<U>> for LastOut {
-    ghost use Rattle.hm_moves.specs.Moving.{view};
+    ghost use Rattle.hm_moves.specs.After.{view};
     ghost use Rattle.hm_cells.specs.Shows.{knowledge};
     ghost use Rattle.hm_cells.specs.Making.{front, back};
 
@@ -71,13 +77,13 @@ impl<U> Split<Knowledge<U>> for LastOut {
     ghost right = { λ k. knowledge (view k.view.seen (back k.view.parts)) };
 }
 
-/// A note with a copy of what was seen gets a seat of its own.
-pub(crate) struct NoteOut;
+/// A note with a copy of what was seen gets a seat of its own, and the caller lets go of a version.
+pub(crate) struct NoteOut<J>(PhantomData<J>);
 
-impl<U> Split<Knowledge<U>> for NoteOut {
-    ghost use Rattle.hm_cells.specs.Shows.{noted};
+impl<J: Moving, U> Split<Knowledge<U>> for NoteOut<J> {
+    ghost use Rattle.hm_cells.specs.Shows.{noted, noting};
 
-    ghost left = { λ k. k };
+    ghost left = { noting J.picked.let_go };
 
     ghost right = { noted };
 }
@@ -120,15 +126,18 @@ impl<U: Usage> Model for Cells<U> {
 }
 
 impl<U: Usage> Cells<U> {
+    ghost use mathlib.Core.Option.{some};
+    ghost use lib.ListN.{get_elem?};
     ghost use Rattle.std.specs.Prelude.{◌∷◌, [], ◌≤◌, IfOk, Some, length};
     ghost use Rattle.hm_shape.specs.Versions.{IsVersionOf};
     ghost use Rattle.hm_shape.specs.Words.{word_at, naming_word};
     ghost use Rattle.hm_model.specs.History.{store_of, opening_of, starting_count};
     ghost use Rattle.hm_moves.specs.declared.part.Part.{Part};
-    ghost use Rattle.hm_moves.specs.Moving.{view};
+    ghost use Rattle.hm_moves.specs.After.{view};
     ghost use Rattle.hm_cells.specs.Grips.{site_of};
-    ghost use Rattle.hm_cells.specs.Shows.{IsReady, Loads, Stores, Exchanges, Learns, Looks, knowledge, noted, met};
-    ghost use Rattle.hm_cells.specs.Making.{AreFirst, first_view, front, back};
+    ghost use Rattle.hm_cells.specs.Shows.{IsReady, Loads, Stores, Exchanges, Learns, LookTells, knowledge, noted, noting, met};
+    ghost use Rattle.hm_moves.specs.FirstWords.{AreFirst};
+    ghost use Rattle.hm_cells.specs.Making.{first_view, front, back};
 
     /// A fresh Table over these words. Its one seat carries all callers.
     pub(crate) fn open(
@@ -173,11 +182,11 @@ impl<U: Usage> Cells<U> {
         requires own { seat.old.table_id ≡ self.now.table }
         requires version { IsVersionOf self.now.site.shape v }
         requires word { i < VERSION_WORDS }
-        requires ready { IsReady U.lawful U.allowed seat.old.me.0 J.picked
+        requires ready { IsReady U.lawful U.allowed seat.old.me.0 J.picked J.place
             (Loads J.picked (word_at self.now.site.shape v i)) }
         ensures own { seat.new.table_id ≡ seat.old.table_id }
         ensures slots { seat.new.me.1 ≡ seat.old.me.1 }
-        ensures told { Learns U.lawful U.allowed J.picked seat.old.me.0 result seat.new.me.0 }
+        ensures told { Learns U.lawful U.allowed J.picked J.place seat.old.me.0 result seat.new.me.0 }
     {
         let table = &self.table;
         let word = v.word_of(self.shape, i) as usize;
@@ -196,11 +205,11 @@ impl<U: Usage> Cells<U> {
         requires own { seat.old.table_id ≡ self.now.table }
         requires version { IsVersionOf self.now.site.shape v }
         requires word { i < VERSION_WORDS }
-        requires ready { IsReady U.lawful U.allowed seat.old.me.0 J.picked
+        requires ready { IsReady U.lawful U.allowed seat.old.me.0 J.picked J.place
             (Stores U.lawful U.allowed J.picked (word_at self.now.site.shape v i) value) }
         ensures own { seat.new.table_id ≡ seat.old.table_id }
         ensures slots { seat.new.me.1 ≡ seat.old.me.1 }
-        ensures told { Learns U.lawful U.allowed J.picked seat.old.me.0 value seat.new.me.0 }
+        ensures told { Learns U.lawful U.allowed J.picked J.place seat.old.me.0 value seat.new.me.0 }
     {
         let table = &self.table;
         let word = v.word_of(self.shape, i) as usize;
@@ -218,11 +227,11 @@ impl<U: Usage> Cells<U> {
     ) -> u64
         requires own { seat.old.table_id ≡ self.now.table }
         requires version { IsVersionOf self.now.site.shape v }
-        requires ready { IsReady U.lawful U.allowed seat.old.me.0 J.picked
+        requires ready { IsReady U.lawful U.allowed seat.old.me.0 J.picked J.place
             (Exchanges J.picked (word_at self.now.site.shape v LINK) (naming_word (Some next))) }
         ensures own { seat.new.table_id ≡ seat.old.table_id }
         ensures slots { seat.new.me.1 ≡ seat.old.me.1 }
-        ensures told { Learns U.lawful U.allowed J.picked seat.old.me.0 result seat.new.me.0 }
+        ensures told { Learns U.lawful U.allowed J.picked J.place seat.old.me.0 result seat.new.me.0 }
     {
         let table = &self.table;
         let word = v.word_of(self.shape, LINK) as usize;
@@ -234,10 +243,10 @@ impl<U: Usage> Cells<U> {
     /// A load by which the seat's caller lets go of a version. The grip is for the pick alone.
     pub(crate) fn look<J: Moving>(&self, seat: &mut Seat<(), Knowledge<U>>, _grip: &Grip<U>)
         requires own { seat.old.table_id ≡ self.now.table }
-        requires alone { (p : Part U) × (seat.old.me.0.view.parts ≡ p ∷ []) }
+        requires carries { (p : Part U) × (get_elem? seat.old.me.0.view.parts J.place ≡ some p) }
         ensures own { seat.new.table_id ≡ seat.old.table_id }
         ensures slots { seat.new.me.1 ≡ seat.old.me.1 }
-        ensures told { Looks U.lawful U.allowed J.picked.let_go seat.old.me.0 seat.new.me.0 }
+        ensures told { LookTells U.lawful U.allowed J.picked.let_go J.place seat.old.me.0 seat.new.me.0 }
     {
         let table = &self.table;
         table.shared.load::<Looking<J>>(seat, 0);
@@ -262,15 +271,19 @@ impl<U: Usage> Cells<U> {
         self.table.shared.split_seat::<LastOut>(seat)
     }
 
-    /// A note is split off a seat.
-    pub(crate) fn note_out(&self, seat: &mut Seat<(), Knowledge<U>>) -> Seat<(), Knowledge<U>>
+    /// A note is split off a seat, whose caller lets go of a version. The grip is for the pick alone.
+    pub(crate) fn note_out<J: Moving>(
+        &self,
+        seat: &mut Seat<(), Knowledge<U>>,
+        _grip: &Grip<U>,
+    ) -> Seat<(), Knowledge<U>>
         requires { seat.old.table_id ≡ self.now.table }
         ensures own { seat.new.table_id ≡ seat.old.table_id }
-        ensures kept { seat.new.me ≡ seat.old.me }
+        ensures kept { seat.new.me ≡ (noting J.picked.let_go seat.old.me.0, seat.old.me.1) }
         ensures table { result.table_id ≡ seat.old.table_id }
         ensures new { result.me ≡ (noted seat.old.me.0, []) }
     {
-        self.table.shared.split_seat::<NoteOut>(seat)
+        self.table.shared.split_seat::<NoteOut<J>>(seat)
     }
 
     /// A seat takes another in.

@@ -177,7 +177,7 @@ module _ {U : Type 0} where
       pub may : IfSome (want_of l) make
 
     -- it may publish its next version as the first of an object
-    pub record MayPublish (p : Part U) (fresh : Known) : Type 0 where
+    pub record MayBegin (p : Part U) (fresh : Known) : Type 0 where
       pub first : IsFirst known p fresh
       pub may : make (Create p.number fresh.name fresh.contents.refs fresh.contents.numbers)
 
@@ -191,7 +191,7 @@ module _ {U : Type 0} where
     -- a caller may build
     abbrev pub MayBuild : Part U → Build → Type 0
     MayBuild p (StoreOwn i word) = IsWritable p i word
-    MayBuild p (Publish fresh) = MayPublish p fresh
+    MayBuild p (Publish fresh) = MayBegin p fresh
     MayBuild p (LinkStore at fresh entry) = MayLink p at fresh entry
 
     -- a caller may take an act, where these names are known and it may make these entries

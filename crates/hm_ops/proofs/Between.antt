@@ -3,7 +3,7 @@ use Rattle.std.proofs.Common.{◌≡◌, ◌≤◌, ℕ, List, length, Option, S
 use Rattle.std.proofs.lemmas.List.Sums.{length-filter}
 use Rattle.hm_model.specs.declared.entry.Entry.{Entry}
 use Rattle.hm_moves.specs.declared.part.Known.{Known}
-use Rattle.hm_moves.specs.Moving.{without}
+use Rattle.hm_moves.specs.After.{without}
 use Rattle.hm_cells.specs.Facts.{Facts, Made, first_idle}
 use Rattle.hm_cells.specs.Calls.{rested}
 use Rattle.hm_cells.specs.Making.{fresh_pass}

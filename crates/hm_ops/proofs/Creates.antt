@@ -13,7 +13,8 @@ use Rattle.hm_model.proofs.Entering.{enters_rests}
 use Rattle.hm_moves.specs.declared.part.Known.{Known}
 use Rattle.hm_moves.specs.declared.moving.Act.{Act}
 use Rattle.hm_moves.specs.declared.moving.Act.TheVariants.{Publish}
-use Rattle.hm_moves.specs.Moving.{HasRoom, next_name, next_version}
+use Rattle.hm_moves.specs.Allowed.{HasRoom, next_name}
+use Rattle.hm_moves.specs.Acts.{next_version}
 use Rattle.hm_cells.specs.Facts.{Facts, Made, IsSound, IsHeldAt, known_at, names_at, place_name, room_of, sight_of, with_hand, with_root, without_first}
 use Rattle.hm_cells.specs.Calls.{MayPublish, Takes, drafted, drafted_numbers, drafted_refs}
 use Rattle.hm_cells.proofs.Stepped.{new_held}

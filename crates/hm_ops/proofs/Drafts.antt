@@ -8,8 +8,7 @@ use Rattle.hm_shape.specs.declared.version.Version.{Version}
 use Rattle.hm_shape.specs.Words.{naming_word}
 use Rattle.hm_model.specs.declared.root.Root.{Root}
 use Rattle.hm_model.specs.Sight.{Sight, Places, name_at, name_of, names_of}
-use Rattle.hm_moves.specs.Moving.{IsWritten}
-use Rattle.hm_moves.specs.Moving.{AreWrittenFrom}
+use Rattle.hm_moves.specs.Allowed.{IsWritten, AreWrittenFrom}
 use Rattle.hm_cells.specs.Facts.{Facts, place_name, sight_of}
 use Rattle.hm_cells.specs.Calls.{drafted_name, drafted_numbers, drafted_refs, drafted_word, version_in}
 use Rattle.hm_cells.proofs.Fields.{naming_in}

@@ -5,7 +5,8 @@ use Rattle.hm_model.specs.declared.entry.Entry.{Entry}
 use Rattle.hm_model.specs.Store.{PlainStore}
 use Rattle.hm_moves.specs.declared.part.Known.{Known}
 use Rattle.hm_moves.specs.declared.moving.Act.{Act}
-use Rattle.hm_moves.specs.Moving.{count_of, entry_of, listed, publishes, seen_after}
+use Rattle.hm_moves.specs.After.{count_of, seen_after}
+use Rattle.hm_moves.specs.Acts.{entry_of, listed, publishes}
 use Rattle.hm_cells.specs.Facts.{Facts, Made, Fits, IsSound, room_of, sight_of}
 use Rattle.hm_cells.specs.Calls.{Takes}
 use Rattle.hm_cells.proofs.Stepped.{held_few}

@@ -13,9 +13,8 @@ use Rattle.hm_moves.specs.declared.part.Known.{Known}
 use Rattle.hm_moves.specs.declared.moving.Act.{Act}
 use Rattle.hm_moves.specs.declared.moving.Act.TheVariants.{LoadNumber, LoadReference}
 use Rattle.hm_moves.specs.Chain.{reference_at}
-use Rattle.hm_moves.specs.Moving.{entry_of, publishes}
-use Rattle.hm_moves.specs.Good.{IsReference}
-use Rattle.hm_moves.specs.Moving.{field_act}
+use Rattle.hm_moves.specs.Acts.{entry_of, publishes, field_look}
+use Rattle.hm_moves.specs.Told.{IsReference}
 use Rattle.hm_cells.specs.Facts.{Facts, Fits, Made, IsLookable, IsSound, IsHeldAt, known_at, place_name, sight_of, with_hand, with_root, without_first}
 use Rattle.hm_cells.specs.Calls.{Takes}
 use Rattle.hm_cells.proofs.Fields.{shape_small}

@@ -12,9 +12,10 @@ use Rattle.hm_model.specs.Store.{PlainStore}
 use Rattle.hm_moves.specs.declared.part.Known.{Known}
 use Rattle.hm_moves.specs.declared.moving.Act.{Act}
 use Rattle.hm_moves.specs.declared.moving.Act.TheVariants.{LoadReference}
-use Rattle.hm_moves.specs.Chain.{IsFit, reference_at}
-use Rattle.hm_moves.specs.Good.{IsReference}
-use Rattle.hm_moves.specs.Moving.{field_act}
+use Rattle.hm_moves.specs.Places.{IsFit}
+use Rattle.hm_moves.specs.Chain.{reference_at}
+use Rattle.hm_moves.specs.Told.{IsReference}
+use Rattle.hm_moves.specs.Acts.{field_look}
 use Rattle.hm_cells.specs.Facts.{Facts, Made, IsSound, known_at, place_name}
 use Rattle.hm_cells.specs.Calls as call
 use Rattle.hm_cells.proofs.Fields.{hand_field, named_in, small_reference}

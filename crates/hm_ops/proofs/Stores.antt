@@ -14,7 +14,8 @@ use Rattle.hm_model.proofs.Entering.{enters_rests}
 use Rattle.hm_moves.specs.declared.part.Known.{Known}
 use Rattle.hm_moves.specs.declared.moving.Act.{Act}
 use Rattle.hm_moves.specs.declared.moving.Act.TheVariants.{LinkStore}
-use Rattle.hm_moves.specs.Moving.{HasRoom, IsWritten, Spells, next_version}
+use Rattle.hm_moves.specs.Allowed.{HasRoom, IsWritten, Spells}
+use Rattle.hm_moves.specs.Acts.{next_version}
 use Rattle.hm_cells.specs.declared.want.Want.{Want}
 use Rattle.hm_cells.specs.Facts.{Facts, Made, IsSound, IsHeldAt, known_at, names_at, place_name, sight_of, with_hand, with_root, without_first}
 use Rattle.hm_cells.specs.Calls.{Takes, linked, stored}

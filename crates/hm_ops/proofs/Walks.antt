@@ -13,8 +13,8 @@ use Rattle.hm_model.proofs.CallFacts.{fetches_enters}
 use Rattle.hm_moves.specs.declared.part.Known.{Known}
 use Rattle.hm_moves.specs.declared.moving.Act.{Act}
 use Rattle.hm_moves.specs.declared.moving.Act.TheVariants.{LoadLink, LinkStore}
-use Rattle.hm_moves.specs.Moving.{where_zero, entry_of, publishes}
-use Rattle.hm_moves.specs.Good.{IsLink}
+use Rattle.hm_moves.specs.Acts.{where_zero, entry_of, publishes}
+use Rattle.hm_moves.specs.Told.{IsLink}
 use Rattle.hm_cells.specs.Facts.{Facts, Made, IsSound, IsHeldAt, IsLookable, known_at, names_at, place_name, sight_of, with_hand, with_root, without_first}
 use Rattle.hm_cells.specs.Calls.{Takes}
 use Rattle.hm_cells.proofs.Found.{same_version}

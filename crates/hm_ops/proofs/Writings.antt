@@ -10,7 +10,8 @@ use Rattle.hm_model.specs.declared.entry.Entry.{Entry}
 use Rattle.hm_model.specs.Store.{PlainStore}
 use Rattle.hm_model.specs.Sight.{Places}
 use Rattle.hm_moves.specs.declared.moving.Act.TheVariants.{StoreOwn}
-use Rattle.hm_moves.specs.Moving.{is_naming, IsWritten, Names}
+use Rattle.hm_moves.specs.After.{is_naming}
+use Rattle.hm_moves.specs.Allowed.{IsWritten, Names}
 use Rattle.hm_cells.specs.Facts.{Facts, Made, IsSound, known_at}
 use Rattle.hm_cells.specs.Calls.{Takes}
 use Rattle.hm_cells.proofs.Found.{found_there}

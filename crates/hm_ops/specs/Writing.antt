@@ -6,7 +6,8 @@ use Rattle.hm_model.specs.declared.object.Name.{Name}
 use Rattle.hm_model.specs.declared.root.Root.{Root}
 use Rattle.hm_model.specs.Store.{Numbers}
 use Rattle.hm_model.specs.Sight.{Places, names_of}
-use Rattle.hm_moves.specs.Moving.{is_naming, IsWritten}
+use Rattle.hm_moves.specs.After.{is_naming}
+use Rattle.hm_moves.specs.Allowed.{IsWritten}
 use Rattle.hm_cells.specs.Facts.{Facts, known_at, place_name, sight_of}
 use Rattle.hm_cells.specs.Calls.{IsWhole, drafted_numbers, drafted_refs, version_in}
 use Rattle.hm_ops.specs.Resting.{IsKept}

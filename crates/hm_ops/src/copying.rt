@@ -1,7 +1,7 @@
 //! Changed copies of a version.
 ghost use Rattle.std.specs.Prelude.{◌≡◌, ◌<◌, [], length, map};
 ghost use Rattle.hm_shape.specs.Words.{naming_word};
-ghost use Rattle.hm_moves.specs.Moving.{HasRoom};
+ghost use Rattle.hm_moves.specs.Allowed.{HasRoom};
 ghost use Rattle.hm_cells.specs.Calls.{MayChange};
 ghost use Rattle.hm_cells.specs.Facts.{with_hand};
 ghost use Rattle.hm_ops.specs.Resting.{IsRooted, Keeps, Works, most_working};

@@ -1,7 +1,7 @@
 //! Steps on the link of the version at a root place.
 ghost use Rattle.std.specs.Prelude.{◌≡◌};
 ghost use Rattle.hm_model.specs.Sight.{IsSet, MayEnter};
-ghost use Rattle.hm_moves.specs.Moving.{HasRoom};
+ghost use Rattle.hm_moves.specs.Allowed.{HasRoom};
 ghost use Rattle.hm_cells.specs.Calls.{IsWholeCopy, MayStore, MayWant, stored, turned, wanted};
 ghost use Rattle.hm_cells.specs.Facts.{known_at, sight_of};
 ghost use Rattle.hm_ops.specs.Resting.{IsAtPlace, Keeps};

@@ -1,7 +1,7 @@
 //! Steps of two calls by turns, on one thread. docs/COLLECTING.md tells of them word by word.
 ghost use Rattle.std.specs.Prelude.{◌≡◌, ◌<◌};
 ghost use Rattle.hm_model.specs.Sight.{IsSet};
-ghost use Rattle.hm_moves.specs.Moving.{HasRoom};
+ghost use Rattle.hm_moves.specs.Allowed.{HasRoom};
 ghost use Rattle.hm_cells.specs.declared.want.Want.TheVariants.{Store};
 ghost use Rattle.hm_cells.specs.Calls.{IsWholeCopy, MayChange, turned};
 ghost use Rattle.hm_cells.specs.Facts.{known_at, sight_of};

@@ -3,7 +3,7 @@ ghost use Rattle.std.specs.Prelude.{◌≡◌, ◌<◌, ◌↔◌, IfErr, OnOk};
 ghost use Rattle.hm_model.specs.Sight.{AreSet, Continues, IsSet, MayEnter};
 ghost use Rattle.hm_model.specs.declared.entry.Tried.TheVariants.{Stored};
 ghost use Rattle.hm_model.specs.Calls.{FindsChanged, IfChanged, MayStoreIf, StoresAll};
-ghost use Rattle.hm_moves.specs.Moving.{HasRoom};
+ghost use Rattle.hm_moves.specs.Allowed.{HasRoom};
 ghost use Rattle.hm_cells.specs.Facts.{sight_of};
 ghost use Rattle.hm_ops.specs.Resting.{IsAtPlace, IsResting, Keeps};
 ghost use Rattle.hm_ops.specs.Storing.{Attempts, tried_at};

@@ -3,7 +3,7 @@ ghost use Rattle.std.specs.Prelude.{◌≡◌, ◌<◌, ◌↔◌, IfSome, IsErr
 ghost use Rattle.hm_model.specs.declared.object.Field.TheVariants.{Number};
 ghost use Rattle.hm_model.specs.Sight.{Continues, IsSet, MayEnter};
 ghost use Rattle.hm_model.specs.Calls.{MayStore, Stores, refer_to};
-ghost use Rattle.hm_moves.specs.Moving.{HasRoom};
+ghost use Rattle.hm_moves.specs.Allowed.{HasRoom};
 ghost use Rattle.hm_cells.specs.declared.want.Want.TheVariants.{Store};
 ghost use Rattle.hm_cells.specs.Calls.{MayChange, field_of, stored};
 ghost use Rattle.hm_cells.specs.Facts.{known_at, sight_of};

@@ -3,7 +3,7 @@ ghost use Rattle.std.specs.Prelude.{◌≡◌, ℕ, ◌+◌, ◌<◌, ◌≤◌,
 ghost use Rattle.hm_shape.specs.declared.version.TheConstants.{VERSION_WORDS};
 ghost use Rattle.hm_shape.specs.Words.{naming_word};
 ghost use Rattle.hm_model.specs.Sight.{AreSet, names_of};
-ghost use Rattle.hm_moves.specs.Moving.{HasRoom};
+ghost use Rattle.hm_moves.specs.Allowed.{HasRoom};
 ghost use Rattle.hm_cells.specs.Facts.{sight_of};
 ghost use Rattle.hm_ops.specs.Resting.{Keeps, Works};
 ghost use Rattle.hm_ops.specs.Storing.{Copies};

@@ -1,4 +1,6 @@
-use Rattle.hm_moves.specs.declared.moving.Act.TheVariants.{LinkStore}
+use Rattle.std.proofs.Common.{Some}
+use Rattle.hm_moves.specs.declared.moving.Act.TheVariants.{Looks, Builds}
+use Rattle.hm_moves.specs.declared.moving.Build.TheVariants.{LinkStore}
 use Rattle.hm_cells.specs.Facts.{known_at}
 use Rattle.hm_cells.specs.Calls.{linked, move_by, stored}
 use Rattle.hm_cells.specs.Shows.{facts_of}
@@ -7,8 +9,9 @@ use Rattle.hm_cells.proofs.steps.link_store.Given as goal
 abbrev pub ghosts-exchange : goal.ghosts-exchange
 ghosts-exchange g a = record {
   picked = move_by (facts_of a.seat.now a._grip.now)
-      (LinkStore (known_at (facts_of a.seat.now a._grip.now) a.v)
+      (Builds (LinkStore (known_at (facts_of a.seat.now a._grip.now) a.v)
       (linked (facts_of a.seat.now a._grip.now) (known_at (facts_of a.seat.now a._grip.now) a.v) a._want.now)
-      (stored (facts_of a.seat.now a._grip.now) (known_at (facts_of a.seat.now a._grip.now) a.v)
-      a._want.now));
+      (Some (stored (facts_of a.seat.now a._grip.now) (known_at (facts_of a.seat.now a._grip.now) a.v)
+      a._want.now))));
+  place = 0;
 }

@@ -1,23 +1,24 @@
-use Rattle.std.proofs.Common.{◌∙◌, ap, subst}
-use Rattle.hm_moves.specs.Moving.{field_act}
+use Rattle.std.proofs.Common.{◌∙◌, ap, subst, arith}
+use Rattle.hm_moves.specs.Acts.{field_look}
+use Rattle.hm_moves.specs.declared.moving.Act.TheVariants.{Looks}
 use Rattle.hm_cells.specs.Facts.{Facts, known_at}
 use Rattle.hm_cells.specs.Calls.{Takes}
 use Rattle.hm_cells.specs.Grips.{Gripped}
 use Rattle.hm_cells.specs.Shows.{facts_of}
-use Rattle.hm_cells.proofs.Loading.{load_fit, load_version, field_ready, field_hand, field_used}
+use Rattle.hm_cells.proofs.Loading.{load_fit, load_version, field_ready, field_hand}
 use Rattle.hm_cells.proofs.Moved.{seated_now, takes_now}
 use Rattle.hm_cells.proofs.steps.load_field.Goals as goal
 
 pub load-word-requires-clause-version : goal.load-word-requires-clause-version
 load-word-requires-clause-version g c =
     let i = c.pass.inside in
-    load_version g.U.Usage.lawful g.U.Usage.allowed i.seat i.grip i.shape i.number i.used c.pass.invariant
+    load_version g.U.Usage.lawful g.U.Usage.allowed i.seat i.grip i.shape i.number i.to i.used c.pass.invariant
     c.args.pass.now c.pass.view_is c.args.v c.requires.look c.args.cells.now c.requires.cells
 
 pub load-word-requires-clause-ready : goal.load-word-requires-clause-ready
 load-word-requires-clause-ready g c =
     let i = c.pass.inside in
-    field_ready g.U.Usage.lawful g.U.Usage.allowed i.seat i.grip i.shape i.number i.used c.pass.invariant
+    field_ready g.U.Usage.lawful g.U.Usage.allowed i.seat i.grip i.shape i.number i.to i.used c.pass.invariant
     c.args.pass.now c.pass.view_is c.args.v c.requires.look c.args.cells.now c.requires.cells c.args.i
     c.requires.word.0 c.requires.word.1 c.requires.hand
 
@@ -26,37 +27,35 @@ invariant_of-pass g c =
     let i = c.pass.inside in
     let e = c.load-word.ensures in
     seated_now g.U.Usage.lawful g.U.Usage.allowed i.seat c.load-word.new.seat i.grip c.take.new.self i.shape
-    i.number
-    i.used (field_act (known_at (facts_of i.seat i.grip) c.args.v) c.args.i) c.load-word.result
+    i.number i.to
+    i.used (Looks (field_look (known_at (facts_of i.seat i.grip) c.args.v) c.args.i)) c.load-word.result
     c.pass.invariant
     e.told e.own e.slots
     (ap (λ (x : Gripped g.row.U.Denot). x.roots) c.take.ensures)
     (ap (λ (x : Gripped g.row.U.Denot). x.hand) c.take.ensures
-    ∙ field_hand g.U.Usage.lawful g.U.Usage.allowed i.seat i.grip i.shape i.number i.used c.pass.invariant
+    ∙ field_hand g.U.Usage.lawful g.U.Usage.allowed i.seat i.grip i.shape i.number i.to i.used c.pass.invariant
     c.args.pass.now c.pass.view_is c.load-word.new.seat c.args.v c.args.i c.load-word.result
     c.requires.word.0 c.requires.word.1 e.told c.named_by.result c.named_by.ensures.named
     c.named_by.ensures.none)
     i.used
-    (field_used g.U.Usage.lawful g.U.Usage.allowed i.seat i.grip i.shape i.number i.used c.pass.invariant
-    c.args.pass.now c.pass.view_is c.load-word.new.seat c.args.v c.args.i c.load-word.result
-    c.requires.word.0 c.requires.word.1 e.told)
+    (omega arith)
 
 pub returns-clause-took : goal.returns-clause-took
 returns-clause-took g c =
     let i = c.pass.inside in
     let e = c.load-word.ensures in
     subst (λ (o : Facts g.row.U.Denot). Takes g.U.Usage.lawful g.U.Usage.allowed o
-    (field_act (known_at o c.args.v) c.args.i) c.load-word.result (facts_of c.load-word.new.seat
+    (Looks (field_look (known_at o c.args.v) c.args.i)) c.load-word.result (facts_of c.load-word.new.seat
     c.take.new.self))
     c.pass.view_is
     (takes_now g.U.Usage.lawful g.U.Usage.allowed i.seat c.load-word.new.seat i.grip c.take.new.self i.shape
-    i.number
-    i.used (field_act (known_at (facts_of i.seat i.grip) c.args.v) c.args.i) c.load-word.result
+    i.number i.to
+    i.used (Looks (field_look (known_at (facts_of i.seat i.grip) c.args.v) c.args.i)) c.load-word.result
     c.pass.invariant
     e.told e.own e.slots
     (ap (λ (x : Gripped g.row.U.Denot). x.roots) c.take.ensures)
     (ap (λ (x : Gripped g.row.U.Denot). x.hand) c.take.ensures
-    ∙ field_hand g.U.Usage.lawful g.U.Usage.allowed i.seat i.grip i.shape i.number i.used c.pass.invariant
+    ∙ field_hand g.U.Usage.lawful g.U.Usage.allowed i.seat i.grip i.shape i.number i.to i.used c.pass.invariant
     c.args.pass.now c.pass.view_is c.load-word.new.seat c.args.v c.args.i c.load-word.result
     c.requires.word.0 c.requires.word.1 e.told c.named_by.result c.named_by.ensures.named
     c.named_by.ensures.none))
@@ -64,7 +63,7 @@ returns-clause-took g c =
 pub returns-clause-fit : goal.returns-clause-fit
 returns-clause-fit g c =
     let i = c.pass.inside in
-    load_fit g.U.Usage.lawful g.U.Usage.allowed i.seat i.grip i.shape i.number i.used c.pass.invariant
+    load_fit g.U.Usage.lawful g.U.Usage.allowed i.seat i.grip i.shape i.number i.to i.used c.pass.invariant
     c.args.pass.now c.pass.view_is c.args.v c.requires.look
 
 pub returns-clause-sound : goal.returns-clause-sound

@@ -1,5 +1,6 @@
 use Rattle.std.proofs.Common.{refl, subst, arith}
-use Rattle.hm_moves.specs.declared.moving.Act.TheVariants.{StoreOwn}
+use Rattle.hm_moves.specs.declared.moving.Act.TheVariants.{Looks, Builds}
+use Rattle.hm_moves.specs.declared.moving.Build.TheVariants.{StoreOwn}
 use Rattle.hm_cells.specs.Facts.{Facts}
 use Rattle.hm_cells.specs.Calls.{Takes}
 use Rattle.hm_cells.specs.Shows.{facts_of}
@@ -10,19 +11,19 @@ use Rattle.hm_cells.proofs.steps.store_own.Goals as goal
 pub store-requires-clause-ready : goal.store-requires-clause-ready
 store-requires-clause-ready g c =
     let i = c.pass.inside in
-    own_ready g.U.Usage.lawful g.U.Usage.allowed i.seat i.grip i.shape i.number i.used c.pass.invariant
-    c.args.pass.now c.pass.view_is c.at-next.result c.at-next.ensures.there c.args.cells.now c.requires.cells
+    own_ready g.U.Usage.lawful g.U.Usage.allowed i.seat i.grip i.shape i.number i.to i.used c.pass.invariant
+    c.args.pass.now c.pass.view_is c.next_version-next.result c.next_version-next.ensures c.args.cells.now c.requires.cells
     c.args.i c.args.word c.requires.word c.requires.room c.requires.named
 
 pub invariant_of-pass : goal.invariant_of-pass
 invariant_of-pass g c =
     let i = c.pass.inside in
     let e = c.store.ensures in
-    seated_now g.U.Usage.lawful g.U.Usage.allowed i.seat c.store.new.seat i.grip i.grip i.shape i.number
+    seated_now g.U.Usage.lawful g.U.Usage.allowed i.seat c.store.new.seat i.grip i.grip i.shape i.number i.to
     i.used
-    (StoreOwn c.args.i c.args.word) c.args.word c.pass.invariant e.told e.own e.slots refl
-    (own_hand g.U.Usage.lawful g.U.Usage.allowed i.seat i.grip i.shape i.number i.used c.pass.invariant
-    c.args.pass.now c.pass.view_is c.at-next.result c.at-next.ensures.there c.store.new.seat c.args.word
+    (Builds (StoreOwn c.args.i c.args.word)) c.args.word c.pass.invariant e.told e.own e.slots refl
+    (own_hand g.U.Usage.lawful g.U.Usage.allowed i.seat i.grip i.shape i.number i.to i.used c.pass.invariant
+    c.args.pass.now c.pass.view_is c.next_version-next.result c.next_version-next.ensures c.store.new.seat c.args.word
     c.args.i c.args.word e.told)
     i.used (omega arith)
 
@@ -31,12 +32,12 @@ returns-clause-took g c =
     let i = c.pass.inside in
     let e = c.store.ensures in
     subst (λ (o : Facts g.row.U.Denot). Takes g.U.Usage.lawful g.U.Usage.allowed o
-    (StoreOwn c.args.i c.args.word) c.args.word (facts_of c.store.new.seat i.grip)) c.pass.view_is
-    (takes_now g.U.Usage.lawful g.U.Usage.allowed i.seat c.store.new.seat i.grip i.grip i.shape i.number
+    (Builds (StoreOwn c.args.i c.args.word)) c.args.word (facts_of c.store.new.seat i.grip)) c.pass.view_is
+    (takes_now g.U.Usage.lawful g.U.Usage.allowed i.seat c.store.new.seat i.grip i.grip i.shape i.number i.to
     i.used
-    (StoreOwn c.args.i c.args.word) c.args.word c.pass.invariant e.told e.own e.slots refl
-    (own_hand g.U.Usage.lawful g.U.Usage.allowed i.seat i.grip i.shape i.number i.used c.pass.invariant
-    c.args.pass.now c.pass.view_is c.at-next.result c.at-next.ensures.there c.store.new.seat c.args.word
+    (Builds (StoreOwn c.args.i c.args.word)) c.args.word c.pass.invariant e.told e.own e.slots refl
+    (own_hand g.U.Usage.lawful g.U.Usage.allowed i.seat i.grip i.shape i.number i.to i.used c.pass.invariant
+    c.args.pass.now c.pass.view_is c.next_version-next.result c.next_version-next.ensures c.store.new.seat c.args.word
     c.args.i c.args.word e.told))
 
 pub returns-clause-sound : goal.returns-clause-sound

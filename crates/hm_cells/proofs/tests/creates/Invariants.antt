@@ -1,5 +1,5 @@
 use Rattle.std.specs.Prelude.{◌<◌, ◌≤◌, ℕ}
-use Rattle.hm_moves.specs.Moving.{HasRoom, IsWritten}
+use Rattle.hm_moves.specs.Allowed.{HasRoom, IsWritten}
 use Rattle.hm_cells.specs.Facts.{Fits, IsAtRest, IsSound}
 use Rattle.hm_cells.proofs.tests.creates.Given as goal
 

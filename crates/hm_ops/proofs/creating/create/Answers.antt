@@ -1,5 +1,5 @@
 use Rattle.std.proofs.Common.{arith}
-use Rattle.hm_moves.specs.Moving.{HasRoom}
+use Rattle.hm_moves.specs.Allowed.{HasRoom}
 use Rattle.hm_ops.proofs.Creates.{create_creates, create_keeps, made_held, may_publish}
 use Rattle.hm_ops.proofs.creating.create.Goals as goal
 

@@ -12,15 +12,15 @@ invariant_of-self g c =
     let s = v.sound in
     subst (λ (x : Gripped g.row.U.Denot). IsSeated g.U.Usage.lawful g.U.Usage.allowed i.seat
     (facts_of i.seat x)
-    i.shape i.number i.used) (sym c.release.ensures) record {
-      alone = v.alone;
+    i.shape i.number i.to i.used) (sym c.release.ensures) record {
+      own = v.own;
       none = v.none;
       shape_is = v.shape_is;
       number_is = v.number_is;
+      to_is = v.to_is;
       used_is = v.used_is;
       sound = record {
         sure = s.sure;
-        region = s.region;
         count = s.count;
         places = s.places;
         apart = s.apart;

@@ -2,7 +2,7 @@ use Rattle.std.proofs.Common.{◌≡◌, ℕ, suc, ◌+◌, ◌-◌, List, [], �
 use Rattle.atomic_table.specs.Table.{Me}
 use Rattle.hm_model.specs.History.{opening_of}
 use Rattle.hm_moves.specs.declared.part.View.{View}
-use Rattle.hm_moves.specs.Moving.{view}
+use Rattle.hm_moves.specs.After.{view}
 use Rattle.hm_cells.specs.declared.knowledge.Knowledge.{Knowledge}
 use Rattle.hm_cells.specs.Grips.{site_of}
 use Rattle.hm_cells.specs.Facts.{Facts}

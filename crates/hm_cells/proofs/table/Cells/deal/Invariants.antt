@@ -1,5 +1,5 @@
 use Rattle.std.specs.Prelude.{◌≡◌, ◌-◌, ◌++◌, []}
-use Rattle.hm_moves.specs.Moving.{view}
+use Rattle.hm_moves.specs.After.{view}
 use Rattle.hm_model.specs.History.{opening_of}
 use Rattle.hm_cells.specs.Grips.{site_of}
 use Rattle.hm_cells.specs.Shows.{knowledge}

@@ -21,10 +21,10 @@ compare_exchange-requires g c =
       inside,
       exchange_as g.U.Usage.lawful g.U.Usage.allowed g.U.Usage.laws (site_of c.self.inside.table.shared.key)
           z.slots
-          p.id p.me.0 p.me.1 g.J.Moving.picked word c.name.result
-          (subst (λ (n : ℕ). IsReady g.U.Usage.lawful g.U.Usage.allowed p.me.0 g.J.Moving.picked
+          p.id g.J.Moving.place p.me.0 p.me.1 g.J.Moving.picked word c.name.result
+          (subst (λ (n : ℕ). IsReady g.U.Usage.lawful g.U.Usage.allowed p.me.0 g.J.Moving.picked g.J.Moving.place
           (Exchanges g.J.Moving.picked word n)) (sym c.name.ensures)
-          (subst (λ (w : ℕ). IsReady g.U.Usage.lawful g.U.Usage.allowed p.me.0 g.J.Moving.picked
+          (subst (λ (w : ℕ). IsReady g.U.Usage.lawful g.U.Usage.allowed p.me.0 g.J.Moving.picked g.J.Moving.place
           (Exchanges g.J.Moving.picked w (naming_word (Some c.args.next)))) is
           c.requires.ready)),
     )

@@ -21,7 +21,7 @@ load-requires g c =
       inside,
       load_as g.U.Usage.lawful g.U.Usage.allowed g.U.Usage.laws (site_of c.self.inside.table.shared.key)
           z.slots
-          p.id p.me.0 p.me.1 g.J.Moving.picked word
-          (subst (λ (w : ℕ). IsReady g.U.Usage.lawful g.U.Usage.allowed p.me.0 g.J.Moving.picked
+          p.id g.J.Moving.place p.me.0 p.me.1 g.J.Moving.picked word
+          (subst (λ (w : ℕ). IsReady g.U.Usage.lawful g.U.Usage.allowed p.me.0 g.J.Moving.picked g.J.Moving.place
           (Loads g.J.Moving.picked w)) is c.requires.ready),
     )
