@@ -21,6 +21,10 @@ use Rattle.hm_moves.specs.After.{is_naming, is_version}
 use Rattle.hm_moves.specs.Allowed.{IsWritten, Names, MayLookInto, done_seen}
 use Rattle.hm_moves.specs.Good.{AreApart, Begins}
 
+-- between two calls on objects a caller holds at most so many versions
+abbrev pub most_resting : ℕ
+most_resting = 400
+
 -- which cells, and what all their seats agree on
 pub record Made (U : Type 0) : Type 0 where
   pub table : TableId
@@ -127,7 +131,7 @@ module _ {U : Type 0} where
   -- a pass is at rest where nothing is in hand, and few versions are held
   pub record IsAtRest (s : Facts U) : Type 0 where
     pub hand : s.hand ≡ []
-    pub few : length s.part.hands.held ≤ 400
+    pub few : length s.part.hands.held ≤ most_resting
 
   -- a pass was made with the cells
   pub record Fits (s : Facts U) (m : Made U) : Type 0 where

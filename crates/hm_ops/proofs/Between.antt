@@ -16,19 +16,20 @@ without_fewer l (Some k) = grind (arith, length-filter, Rattle.std.proofs.lemmas
 
 module _ {U : Type 0} where
   -- a pass at rest that takes a note in, or splits one off
-  pub rested_rests : (s t : Facts U) (m : Made U) (seen : List Entry) → IsResting s m → t ≡ rested s seen →
+  pub rested_rests : (s t : Facts U) (m : Made U) (seen : List Entry) (n : ℕ) → IsResting s m → t ≡ rested s seen n →
       IsResting t m
-  rested_rests s t m seen k is = subst (λ (f : Facts U). IsResting f m) (sym is) record {
+  rested_rests s t m seen n k is = subst (λ (f : Facts U). IsResting f m) (sym is) record {
     fits = record { cells = k.fits.cells; site = k.fits.site };
-    empty = k.empty;
-    few = let less = without_fewer s.part.hands.held (first_idle s.roots s.hand s.part.hands.held) in omega
-        (arith, k.few);
+    rest = record {
+      hand = k.rest.hand;
+      few = let less = without_fewer s.part.hands.held (first_idle s.roots s.hand s.part.hands.held) in
+          omega (arith, k.rest.few);
+    };
   }
 
   -- the pass of a caller of a fresh heap
   pub fresh_rests : (m : Made U) (q : ℕ) → IsResting (fresh_pass m.table m.site q) m
   fresh_rests m q = record {
     fits = record { cells = refl; site = refl };
-    empty = refl;
-    few = omega arith;
+    rest = record { hand = refl; few = omega arith };
   }

@@ -12,7 +12,8 @@ use Rattle.hm_model.proofs.CallFacts.{creates_enters}
 use Rattle.hm_model.proofs.Entering.{enters_rests}
 use Rattle.hm_moves.specs.declared.part.Known.{Known}
 use Rattle.hm_moves.specs.declared.moving.Act.{Act}
-use Rattle.hm_moves.specs.declared.moving.Act.TheVariants.{Publish}
+use Rattle.hm_moves.specs.declared.moving.Act.TheVariants.{Builds}
+use Rattle.hm_moves.specs.declared.moving.Build.TheVariants.{Publish}
 use Rattle.hm_moves.specs.Allowed.{HasRoom, next_name}
 use Rattle.hm_moves.specs.Acts.{next_version}
 use Rattle.hm_cells.specs.Facts.{Facts, Made, IsSound, IsHeldAt, known_at, names_at, place_name, room_of, sight_of, with_hand, with_root, without_first}
@@ -38,12 +39,12 @@ module _ {U : Type 0} (lawful : U → PlainStore → Type 0) (allowed : U → Pl
 
     module _ (m : Made U) (u : Facts U) (made : Version) (k : Keeps lawful allowed t m)
         (after : IsSound lawful allowed u)
-        (took : Takes lawful allowed t (Publish (drafted t.part)) 0 u) (is : made ≡ next_version t.part) where
+        (took : Takes lawful allowed t (Builds (Publish (drafted t.part))) 0 u) (is : made ≡ next_version t.part) where
       abbrev n : Name
       n = next_name t.part
 
       abbrev act : Act
-      act = Publish (drafted t.part)
+      act = Builds (Publish (drafted t.part))
 
       here : IsHeldAt u made × (known_at u made ≡ drafted t.part) × Contains u.hand made
       here = subst (λ (w : Version). IsHeldAt u w × (known_at u w ≡ drafted t.part) × Contains u.hand w)
@@ -70,7 +71,7 @@ module _ {U : Type 0} (lawful : U → PlainStore → Type 0) (allowed : U → Pl
           (put : p ≡ with_root u into (Some made)) (let_go : f ≡ with_hand p (without_first made p.hand))
         where
           one : u.hand ≡ made ∷ []
-          one = hand_taken lawful allowed t u act 0 took None (Some (drafted t.part)) k.resting.empty
+          one = hand_taken lawful allowed t u act 0 took None (Some (drafted t.part)) k.resting.rest.hand
               took.what refl
               ∙ ap (λ (w : Version). w ∷ []) (sym is)
 

@@ -17,15 +17,15 @@ module _ {U : Type 0} (lawful : U → PlainStore → Type 0) (allowed : U → Pl
   pub rest_works : (s : Facts U) (m : Made U) → Keeps lawful allowed s m → Works lawful allowed s m
   rest_works s m k = record {
     fits = k.resting.fits;
-    hand = let e : length s.hand ≡ 0 = ap (λ (l : List Version). length l) k.resting.empty in omega arith;
-    few = k.resting.few;
+    hand = let e : length s.hand ≡ 0 = ap (λ (l : List Version). length l) k.resting.rest.hand in omega arith;
+    few = k.resting.rest.few;
     sound = k.sound;
   }
 
   pub work_rests : (s : Facts U) (m : Made U) → Works lawful allowed s m → s.hand ≡ []
       → Keeps lawful allowed s m
   work_rests s m k empty = record {
-    resting = record { fits = k.fits; empty = empty; few = k.few };
+    resting = record { fits = k.fits; rest = record { hand = empty; few = k.few } };
     sound = k.sound;
   }
 
@@ -55,8 +55,8 @@ module _ {U : Type 0} (lawful : U → PlainStore → Type 0) (allowed : U → Pl
     pub few_kept : (m : Made U) → Keeps lawful allowed s m → IsSound lawful allowed t → length
         t.part.hands.held ≤ 400
     few_kept m k after =
-        let none : length s.hand ≡ 0 = ap (λ (l : List Version). length l) k.resting.empty in
-        few_working (omega arith) k.resting.few k.sound after
+        let none : length s.hand ≡ 0 = ap (λ (l : List Version). length l) k.resting.rest.hand in
+        few_working (omega arith) k.resting.rest.few k.sound after
 
     -- what is in hand
     pub hand_taken : (found new : Option Known) → s.hand ≡ [] → took.found ≡ found → publishes act x ≡ new
@@ -98,8 +98,10 @@ module _ {U : Type 0} (lawful : U → PlainStore → Type 0) (allowed : U → Pl
     keeps_none m k after none nothing = record {
       resting = record {
         fits = fits_kept m k.resting.fits;
-        empty = hand_taken None None k.resting.empty none nothing;
-        few = few_kept m k after;
+        rest = record {
+          hand = hand_taken None None k.resting.rest.hand none nothing;
+          few = few_kept m k after;
+        };
       };
       sound = after;
     }
@@ -120,8 +122,8 @@ module _ {U : Type 0} (lawful : U → PlainStore → Type 0) (allowed : U → Pl
     same_sight no_entry nothing =
         let seen : t.seen ≡ s.seen = ap (λ (f : Facts U). f.seen) took.is
         ∙ ap (seen_after s.seen (s.seen ++ took.between)) no_entry in
-        let mine : t.part.mine ≡ s.part.mine = ap (λ (f : Facts U). f.part.mine) took.is
-        ∙ (ap (λ (e : Option Entry). s.part.mine ++ listed e) no_entry ∙ append-nil s.part.mine) in
+        let mine : t.part.calls.mine ≡ s.part.calls.mine = ap (λ (f : Facts U). f.part.calls.mine) took.is
+        ∙ (ap (λ (e : Option Entry). s.part.calls.mine ++ listed e) no_entry ∙ append-nil s.part.calls.mine) in
         λ i. record {
           usage = (site_kept i).usage;
           start = (site_kept i).start;

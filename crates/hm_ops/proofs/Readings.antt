@@ -11,7 +11,9 @@ use Rattle.hm_model.specs.Store.{PlainStore, IsSized}
 use Rattle.hm_model.specs.Sight.{Sight, Rests, SetsRoot}
 use Rattle.hm_moves.specs.declared.part.Known.{Known}
 use Rattle.hm_moves.specs.declared.moving.Act.{Act}
-use Rattle.hm_moves.specs.declared.moving.Act.TheVariants.{LoadNumber, LoadReference}
+use Rattle.hm_moves.specs.declared.moving.Look.{Look}
+use Rattle.hm_moves.specs.declared.moving.Act.TheVariants.{Looks}
+use Rattle.hm_moves.specs.declared.moving.Look.TheVariants.{LoadNumber, LoadReference}
 use Rattle.hm_moves.specs.Chain.{reference_at}
 use Rattle.hm_moves.specs.Acts.{entry_of, publishes, field_look}
 use Rattle.hm_moves.specs.Told.{IsReference}
@@ -19,7 +21,7 @@ use Rattle.hm_cells.specs.Facts.{Facts, Fits, Made, IsLookable, IsSound, IsHeldA
 use Rattle.hm_cells.specs.Calls.{Takes}
 use Rattle.hm_cells.proofs.Fields.{shape_small}
 use Rattle.hm_cells.proofs.Found.{same_version}
-use Rattle.hm_cells.proofs.Stepped.{kept_held, kept_stays, found_held, held_lookable, known_fit, number_act, reference_act}
+use Rattle.hm_cells.proofs.Stepped.{kept_held, kept_stays, found_held, held_lookable, known_fit, number_look, reference_look}
 use Rattle.hm_ops.specs.Resting.{IsRooted, IsRootedBeside, Keeps}
 use Rattle.hm_ops.specs.Walking.{Reads, ReadsInto, contents_at}
 use Rattle.hm_ops.proofs.Quiet.{fits_kept, few_kept, hand_taken, keeps_none, roots_kept, same_sight}
@@ -79,26 +81,26 @@ module _ {U : Type 0} (lawful : U → PlainStore → Type 0) (allowed : U → Pl
       keeps = keeps_none lawful allowed s t act x took m k after (none took) nothing;
     }
 
-    module _ (i : ℕ) (low : i < 10) (took : Takes lawful allowed s (field_act (known_at s v) (6 + i)) x t)
+    module _ (i : ℕ) (low : i < 10) (took : Takes lawful allowed s (Looks (field_look (known_at s v) (6 + i))) x t)
       where
-        took_number : Takes lawful allowed s (LoadNumber (known_at s v) i) x t
-        took_number = subst (λ (a : Act). Takes lawful allowed s a x t) (number_act (known_at s v) i low) took
+        took_number : Takes lawful allowed s (Looks (LoadNumber (known_at s v) i)) x t
+        took_number = subst (λ (l : Look). Takes lawful allowed s (Looks l) x t) (number_look (known_at s v) i low) took
 
         pub number_read : IsRooted s v → Reads lawful allowed m s v t
-        number_read rooted = reads_plain (LoadNumber (known_at s v) i) took_number rooted refl refl
+        number_read rooted = reads_plain (Looks (LoadNumber (known_at s v) i)) took_number rooted refl refl
             (λ z. z.what.1)
 
         pub number_is : x ≡ slice_index (contents_at s v).numbers i
         number_is = took_number.what.0
 
-    module _ (i : ℕ) (low : i < 4) (took : Takes lawful allowed s (field_act (known_at s v) (2 + i)) x t)
+    module _ (i : ℕ) (low : i < 4) (took : Takes lawful allowed s (Looks (field_look (known_at s v) (2 + i))) x t)
       where
         abbrev act : Act
-        act = LoadReference (known_at s v) i
+        act = Looks (LoadReference (known_at s v) i)
 
         took_reference : Takes lawful allowed s act x t
-        took_reference = subst (λ (a : Act). Takes lawful allowed s a x t)
-            (reference_act (known_at s v) i low) took
+        took_reference = subst (λ (l : Look). Takes lawful allowed s (Looks l) x t)
+            (reference_look (known_at s v) i low) took
 
         -- a word of a reference names a version by its number
         pub word_small : x ≤ 2 ^ 32
@@ -166,7 +168,7 @@ module _ {U : Type 0} (lawful : U → PlainStore → Type 0) (allowed : U → Pl
               → ReadsInto lawful allowed m s v i into.0 u
           some_read into p u beside sets put let_go =
               let one : t.hand ≡ next ∷ [] =
-              hand_taken lawful allowed s t act x took_reference (Some referred.known) None k.resting.empty
+              hand_taken lawful allowed s t act x took_reference (Some referred.known) None k.resting.rest.hand
               referred.is refl
               ∙ ap (λ (w : Version). w ∷ []) referred.version in
               let is : u ≡ settled t into (Some next) = settled_is t p u into next one put let_go in
@@ -194,7 +196,7 @@ module _ {U : Type 0} (lawful : U → PlainStore → Type 0) (allowed : U → Pl
               → ReadsInto lawful allowed m s v i into.0 u
           none_read into u beside sets put =
               let empty : t.hand ≡ [] = hand_taken lawful allowed s t act x took_reference None None
-              k.resting.empty both.0 refl in
+              k.resting.rest.hand both.0 refl in
               let is : u ≡ settled t into None = put ∙ (λ j. with_hand (with_root t into None) (empty j)) in
               let sets' : SetsRoot (sight_of t) (sight_of (settled t into None)) into.0
               (reference_at (contents_at s v) i) =

@@ -11,7 +11,9 @@ use Rattle.hm_model.specs.declared.entry.Entry.{Entry}
 use Rattle.hm_model.specs.Store.{PlainStore}
 use Rattle.hm_moves.specs.declared.part.Known.{Known}
 use Rattle.hm_moves.specs.declared.moving.Act.{Act}
-use Rattle.hm_moves.specs.declared.moving.Act.TheVariants.{LoadReference}
+use Rattle.hm_moves.specs.declared.moving.Look.{Look}
+use Rattle.hm_moves.specs.declared.moving.Act.TheVariants.{Looks}
+use Rattle.hm_moves.specs.declared.moving.Look.TheVariants.{LoadReference}
 use Rattle.hm_moves.specs.Places.{IsFit}
 use Rattle.hm_moves.specs.Chain.{reference_at}
 use Rattle.hm_moves.specs.Told.{IsReference}
@@ -20,13 +22,14 @@ use Rattle.hm_cells.specs.Facts.{Facts, Made, IsSound, known_at, place_name}
 use Rattle.hm_cells.specs.Calls as call
 use Rattle.hm_cells.proofs.Fields.{hand_field, named_in, small_reference}
 use Rattle.hm_cells.proofs.Found.{at_place, same_version}
-use Rattle.hm_cells.proofs.Stepped.{found_held, kept_held, kept_stays, reference_act}
+use Rattle.hm_cells.proofs.Stepped.{found_held, kept_held, kept_stays, reference_look}
 use Rattle.hm_ops.specs.Resting.{IsKept, IsRooted, Keeps, Works}
 use Rattle.hm_ops.specs.Walking.{contents_at}
 use Rattle.hm_ops.specs.Copying.{Stays, TakesReference, TakesReferences, given}
 use Rattle.hm_ops.proofs.Quiet.{roots_kept, same_sight, works_one}
 use Rattle.hm_ops.proofs.Readings.{rooted_sized, same_list}
 use Rattle.hm_ops.proofs.Settled.{held_name}
+use Rattle.hm_moves.specs.Allowed.{done_seen}
 
 -- one version more
 given_more : (vs : List (Option Version)) (v : Option Version)
@@ -64,20 +67,20 @@ module _ {U : Type 0} (lawful : U → PlainStore → Type 0) (allowed : U → Pl
   -- one load
   module _ (s t : Facts U) (v : Version) (i x : ℕ) (k : Works lawful allowed s m)
       (after : IsSound lawful allowed t) (rooted : IsRooted s v) (low : i < 4)
-      (loaded : call.Takes lawful allowed s (field_act (known_at s v) (2 + i)) x t) where
+      (loaded : call.Takes lawful allowed s (Looks (field_look (known_at s v) (2 + i))) x t) where
     abbrev act : Act
-    act = LoadReference (known_at s v) i
+    act = Looks (LoadReference (known_at s v) i)
 
     took : call.Takes lawful allowed s act x t
-    took = subst (λ (a : Act). call.Takes lawful allowed s a x t) (reference_act (known_at s v) i low) loaded
+    took = subst (λ (l : Look). call.Takes lawful allowed s (Looks l) x t) (reference_look (known_at s v) i low) loaded
 
     fit : (found : Option Known) → IfSome found (Contains t.part.hands.held)
-        → IfSome found (IsFit t.part.site.shape)
+        → IfSome found (IsFit t.part.site.shape (done_seen t.part))
     fit None h = tt
     fit (Some n) h = after.sure.fit n (inl h)
 
     small : x ≤ 2 ^ 32
-    small = small_reference t.part.site.shape x took.found (reference_at (contents_at s v) i) took.what
+    small = small_reference t.part.site.shape (done_seen t.part) x took.found (reference_at (contents_at s v) i) took.what
         (fit took.found took.holds)
 
     module _ (named : Option Version) (names : x ≤ 2 ^ 32 → naming_word named ≡ x) where
@@ -85,7 +88,7 @@ module _ {U : Type 0} (lawful : U → PlainStore → Type 0) (allowed : U → Pl
       hand =
           ap (λ (f : Facts U). f.hand) loaded.is
           ∙ ap (λ (l : List Version). s.hand ++ l)
-          (hand_field t.part.site.shape (known_at s v) (2 + i) x loaded.found named (omega arith)
+          (hand_field t.part.site.shape (done_seen t.part) (known_at s v) (2 + i) x loaded.found named (omega arith)
           (omega arith) loaded.what (fit loaded.found loaded.holds)
           (λ a b c. named_in named x (names c))
           (λ out. absurd (Rattle.std.proofs.Common.⊎_elim (λ (a : 2 + i < 2). omega arith)
@@ -155,7 +158,7 @@ module _ {U : Type 0} (lawful : U → PlainStore → Type 0) (allowed : U → Pl
         roots = refl;
         known = λ w kept. (kept_held lawful allowed s w rest.sound kept, refl);
       };
-      hand = rest.resting.empty;
+      hand = rest.resting.rest.hand;
       names = λ i low. absurd (omega arith);
     }
 
@@ -165,7 +168,7 @@ module _ {U : Type 0} (lawful : U → PlainStore → Type 0) (allowed : U → Pl
       kept x (inl (r, at)) =
           inl (r, ap (λ (l : List (Option Version)). get_or l r None) before.stays.roots ∙ at)
       kept x (inr c) =
-          let none : Contains [] x = subst (λ (l : List Version). Contains l x) rest.resting.empty c in
+          let none : Contains [] x = subst (λ (l : List Version). Contains l x) rest.resting.rest.hand c in
           absurd (let low = none.1 in omega arith)
 
       handed : (i : ℕ) (o : Option Version) → get_or vs i None ≡ o → IfSome o (IsKept t)

@@ -38,7 +38,7 @@ module _ {U : Type 0} where
   held_known s v h =
       let m = among s.part.hands.held v h in
       let same : known_at s v ≡ m.0 = ap (λ (o : Option Known). unwrap_or o nothing_known)
-      (found_first s.part.hands.held s.part.hands.published v m.0 m.1) in
+      (found_first s.part.hands.held s.part.hands.own v m.0 m.1) in
       m.1 ∙ ap Some (sym same)
 
   -- and so is the name at a place that names it
@@ -92,12 +92,10 @@ module _ {U : Type 0} where
     settled_keeps s m r v fits few sound held = record {
       resting = record {
         fits = record { cells = fits.cells; site = fits.site };
-        empty = refl;
-        few = few;
+        rest = record { hand = refl; few = few };
       };
       sound = record {
         sure = sound.sure;
-        region = sound.region;
         count = sound.count;
         places = sound.places;
         apart = sound.apart;

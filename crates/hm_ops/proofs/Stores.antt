@@ -13,7 +13,8 @@ use Rattle.hm_model.specs.Sight.{Enters, Sight, name_at}
 use Rattle.hm_model.proofs.Entering.{enters_rests}
 use Rattle.hm_moves.specs.declared.part.Known.{Known}
 use Rattle.hm_moves.specs.declared.moving.Act.{Act}
-use Rattle.hm_moves.specs.declared.moving.Act.TheVariants.{LinkStore}
+use Rattle.hm_moves.specs.declared.moving.Act.TheVariants.{Builds}
+use Rattle.hm_moves.specs.declared.moving.Build.TheVariants.{LinkStore}
 use Rattle.hm_moves.specs.Allowed.{HasRoom, IsWritten, Spells}
 use Rattle.hm_moves.specs.Acts.{next_version}
 use Rattle.hm_cells.specs.declared.want.Want.{Want}
@@ -121,7 +122,8 @@ module _ {U : Type 0} (lawful : U → PlainStore → Type 0) (allowed : U → Pl
     -- an exchange that finds 0 ends a call, where the new version is named and released
     module _ (want : Want) (made : Version) (is : made ≡ next_version s.part)
         (took : Takes lawful allowed s
-        (LinkStore (known_at s v) (linked s (known_at s v) want) (stored s (known_at s v) want)) 0 t) where
+        (Builds (LinkStore (known_at s v) (linked s (known_at s v) want)
+        (Some (stored s (known_at s v) want)))) 0 t) where
       abbrev fresh : Known
       fresh = linked s (known_at s v) want
 
@@ -129,7 +131,7 @@ module _ {U : Type 0} (lawful : U → PlainStore → Type 0) (allowed : U → Pl
       entry = stored s (known_at s v) want
 
       abbrev act : Act
-      act = LinkStore (known_at s v) fresh entry
+      act = Builds (LinkStore (known_at s v) fresh (Some entry))
 
       here : IsHeldAt t made × (known_at t made ≡ fresh) × Contains t.hand made
       here = subst (λ (w : Version). IsHeldAt t w × (known_at t w ≡ fresh) × Contains t.hand w) (sym is)
@@ -145,7 +147,7 @@ module _ {U : Type 0} (lawful : U → PlainStore → Type 0) (allowed : U → Pl
           → u ≡ with_hand p (without_first made p.hand) → Ends lawful allowed m s entry 1 u
       link_ends p u room put let_go =
           let one : t.hand ≡ made ∷ [] =
-          hand_taken lawful allowed s t act 0 took None (Some fresh) k.resting.empty none_found refl
+          hand_taken lawful allowed s t act 0 took None (Some fresh) k.resting.rest.hand none_found refl
           ∙ ap (λ (w : Version). w ∷ []) (sym is) in
           let end : u ≡ settled t r (Some made) = settled_is t p u r made one put let_go in
           let name : place_name t.part.hands.held (Some made) ≡ Some (known_at s v).name =

@@ -1,7 +1,7 @@
 -- Steps of a walk along links.
 use Rattle.std.proofs.Common.{◌≡◌, ◌<◌, ◌+◌, ℕ, add-one, List, [], ◌∷◌, length, get_or, set, Option, Some, None, Contains, refl, sym, ap, ◌∙◌, subst, arith, inl, get_or-set_same}
 use Rattle.hm_shape.specs.declared.version.Version.{Version}
-use Rattle.hm_shape.specs.Versions.{version_count}
+use Rattle.hm_moves.specs.Places.{rank_limit}
 use Rattle.hm_model.specs.declared.object.Name.{Name}
 use Rattle.hm_model.specs.declared.entry.Entry.{Entry}
 use Rattle.hm_model.specs.declared.entry.Entry.TheVariants.{Fetch}
@@ -12,11 +12,13 @@ use Rattle.hm_model.specs.Calls.{Fetches}
 use Rattle.hm_model.proofs.CallFacts.{fetches_enters}
 use Rattle.hm_moves.specs.declared.part.Known.{Known}
 use Rattle.hm_moves.specs.declared.moving.Act.{Act}
-use Rattle.hm_moves.specs.declared.moving.Act.TheVariants.{LoadLink, LinkStore}
+use Rattle.hm_moves.specs.declared.moving.Act.TheVariants.{Looks, Builds}
+use Rattle.hm_moves.specs.declared.moving.Look.TheVariants.{LoadLink}
+use Rattle.hm_moves.specs.declared.moving.Build.TheVariants.{LinkStore}
 use Rattle.hm_moves.specs.Acts.{where_zero, entry_of, publishes}
 use Rattle.hm_moves.specs.Told.{IsLink}
 use Rattle.hm_cells.specs.Facts.{Facts, Made, IsSound, IsHeldAt, IsLookable, known_at, names_at, place_name, sight_of, with_hand, with_root, without_first}
-use Rattle.hm_cells.specs.Calls.{Takes}
+use Rattle.hm_cells.specs.Calls.{Takes, Tells}
 use Rattle.hm_cells.proofs.Found.{same_version}
 use Rattle.hm_cells.proofs.Stepped.{kept_held, kept_stays, held_lookable, known_fit}
 use Rattle.hm_cells.proofs.Stepped as stepped
@@ -49,8 +51,13 @@ link_some at next (Some k) h = record {
   later = h.2;
 }
 
+where_none : {A : Type 0} (o : Option A) → where_zero o 0 ≡ o
+where_none None = refl
+where_none (Some a) = refl
+
 where_more : {A : Type 0} (o : Option A) (n : ℕ) → where_zero o (n + 1) ≡ None
-where_more o n = ap (where_zero o) (add-one n)
+where_more None n = refl
+where_more (Some a) n = ap (where_zero (Some a)) (add-one n)
 
 module _ {U : Type 0} (lawful : U → PlainStore → Type 0) (allowed : U → PlainStore → Entry → Type 0)
     (m : Made U) where
@@ -66,13 +73,14 @@ module _ {U : Type 0} (lawful : U → PlainStore → Type 0) (allowed : U → Pl
   module _ (s t : Facts U) (r : Root) (v : Version) (k : Keeps lawful allowed s m) (at : IsAtPlace s r.0 v)
       (after : IsSound lawful allowed t) where
     -- a link of 0 is the last
-    pub looks_last : (want : Option Entry) → Takes lawful allowed s (LoadLink (known_at s v) want) 0 t
+    pub looks_last : (want : Option Entry) → Takes lawful allowed s (Looks (LoadLink (known_at s v) want)) 0 t
         → IsLast lawful allowed m s v want t
     looks_last want took =
-        let act : Act = LoadLink (known_at s v) want in
+        let act : Act = Looks (LoadLink (known_at s v) want) in
         record {
-          tells = took.tells;
-          same = λ none. same_sight lawful allowed s t act 0 took none refl;
+          tells = subst (λ (o : Option Entry). Tells lawful allowed o (sight_of s) (sight_of t)) (where_none want)
+              took.tells;
+          same = λ none. same_sight lawful allowed s t act 0 took (where_none want ∙ none) refl;
           names = took.names;
           room = room_kept lawful allowed s t act 0 took refl;
           roots = roots_kept lawful allowed s t act 0 took;
@@ -106,7 +114,7 @@ module _ {U : Type 0} (lawful : U → PlainStore → Type 0) (allowed : U → Pl
           → GoesOn lawful allowed m s r v next u
       goes_by p u put let_go =
           let one : t.hand ≡ next ∷ [] =
-          hand_taken lawful allowed s t act (next.0 + 1) took (Some linked.known) None k.resting.empty
+          hand_taken lawful allowed s t act (next.0 + 1) took (Some linked.known) None k.resting.rest.hand
           linked.is nothing
           ∙ ap (λ (w : Version). w ∷ []) linked.version in
           let is : u ≡ settled t r (Some next) = settled_is t p u r next one put let_go in
@@ -130,9 +138,9 @@ module _ {U : Type 0} (lawful : U → PlainStore → Type 0) (allowed : U → Pl
           let fit = known_fit lawful allowed t next after (held_lookable lawful allowed t next here.0) in
           let site : t.part.site.shape ≡ m.site.shape = ap (λ
           (x : Rattle.hm_moves.specs.declared.part.Site.Site U). x.shape) fits.site in
-          let low_rank : (known_at t next).rank < version_count m.site.shape =
+          let low_rank : (known_at t next).rank < rank_limit m.site.shape 0 =
           subst (λ (x : Rattle.hm_shape.specs.declared.shape.Shape.Shape). (known_at t next).rank <
-          version_count x) site fit.rank in
+          rank_limit x 0) site fit.rank in
           let rank : (known_at t next).rank ≡ linked.known.rank = ap (λ (n : Known). n.rank) here.1 in
           let later = linked.later in
           subst (GoesOn lawful allowed m s r v next) (sym is) record {
@@ -144,9 +152,9 @@ module _ {U : Type 0} (lawful : U → PlainStore → Type 0) (allowed : U → Pl
           }
 
     module _ (want : Option Entry) (next : Version)
-        (took : Takes lawful allowed s (LoadLink (known_at s v) want) (next.0 + 1) t) where
+        (took : Takes lawful allowed s (Looks (LoadLink (known_at s v) want)) (next.0 + 1) t) where
       abbrev load : Act
-      load = LoadLink (known_at s v) want
+      load = Looks (LoadLink (known_at s v) want)
 
       pub next_held : IsHeldAt t next
       next_held = later_held load next took took.what (where_more want next.0) refl
@@ -160,23 +168,23 @@ module _ {U : Type 0} (lawful : U → PlainStore → Type 0) (allowed : U → Pl
       walk_goes p u put let_go = goes_by load next took took.what (where_more want next.0) refl p u put let_go
 
     -- an exchange that found a version goes on as well
-    module _ (fresh : Known) (entry : Entry) (next : Version)
-        (took : Takes lawful allowed s (LinkStore (known_at s v) fresh entry) (next.0 + 1) t) where
+    module _ (fresh : Known) (entry : Option Entry) (next : Version)
+        (took : Takes lawful allowed s (Builds (LinkStore (known_at s v) fresh entry)) (next.0 + 1) t) where
       abbrev exchange : Act
-      exchange = LinkStore (known_at s v) fresh entry
+      exchange = Builds (LinkStore (known_at s v) fresh entry)
 
       pub found_held : IsHeldAt t next
-      found_held = later_held exchange next took took.what (where_more (Some entry) next.0)
+      found_held = later_held exchange next took took.what (where_more entry next.0)
           (where_more (Some fresh) next.0)
 
       pub found_taken : Contains t.hand next
-      found_taken = later_taken exchange next took took.what (where_more (Some entry) next.0)
+      found_taken = later_taken exchange next took took.what (where_more entry next.0)
           (where_more (Some fresh) next.0)
 
       pub link_goes : (p u : Facts U) → p ≡ with_root t r (Some next) → u ≡ with_hand p
           (without_first next p.hand)
           → GoesOn lawful allowed m s r v next u
-      link_goes p u put let_go = goes_by exchange next took took.what (where_more (Some entry) next.0)
+      link_goes p u put let_go = goes_by exchange next took took.what (where_more entry next.0)
           (where_more (Some fresh) next.0) p u put let_go
 
   -- a walk ends at the last version, where the object is fetched

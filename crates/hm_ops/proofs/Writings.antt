@@ -9,7 +9,8 @@ use Rattle.hm_model.specs.declared.root.Root.{Root}
 use Rattle.hm_model.specs.declared.entry.Entry.{Entry}
 use Rattle.hm_model.specs.Store.{PlainStore}
 use Rattle.hm_model.specs.Sight.{Places}
-use Rattle.hm_moves.specs.declared.moving.Act.TheVariants.{StoreOwn}
+use Rattle.hm_moves.specs.declared.moving.Act.TheVariants.{Builds}
+use Rattle.hm_moves.specs.declared.moving.Build.TheVariants.{StoreOwn}
 use Rattle.hm_moves.specs.After.{is_naming}
 use Rattle.hm_moves.specs.Allowed.{IsWritten, Names}
 use Rattle.hm_cells.specs.Facts.{Facts, Made, IsSound, known_at}
@@ -60,7 +61,7 @@ module _ {U : Type 0} where
       subst (All (NamesKept s)) (sym are)
       (All-map (NamesKept s) (reference_word s.roots) refs (λ i d low. place_kept s (get_or refs i d)))
 
-same_store : (i j w x : ℕ) → StoreOwn i w ≡ StoreOwn j x → i ≡ j
+same_store : (i j w x : ℕ) → Builds (StoreOwn i w) ≡ Builds (StoreOwn j x) → i ≡ j
 same_store i j w x e = cc
 
 module _ {U : Type 0} (lawful : U → PlainStore → Type 0) (allowed : U → PlainStore → Entry → Type 0)
@@ -82,14 +83,14 @@ module _ {U : Type 0} (lawful : U → PlainStore → Type 0) (allowed : U → Pl
 
   module _ (s t u : Facts U) (first n w : ℕ) (words : List ℕ) (k : Works lawful allowed t m)
       (after : IsSound lawful allowed u)
-      (took : Takes lawful allowed t (StoreOwn (first + n) w) w u) where
+      (took : Takes lawful allowed t (Builds (StoreOwn (first + n) w)) w u) where
     pub works_stored : Works lawful allowed u m
-    works_stored = works_none lawful allowed t u (StoreOwn (first + n) w) w took m k after took.what refl
+    works_stored = works_none lawful allowed t u (Builds (StoreOwn (first + n) w)) w took m k after took.what refl
 
     stays : (j x : ℕ) → first + n ≢ j → Lasts t j x → IsWritten t.part.draft.written j x
         → IsWritten u.part.draft.written j x
     stays j x other lasts was =
-        written_stays lawful allowed t u (StoreOwn (first + n) w) w k.sound after took j x refl
+        written_stays lawful allowed t u (Builds (StoreOwn (first + n) w)) w k.sound after took j x refl
         (λ i y e same. other (same_store (first + n) i w y e ∙ same)) was lasts
 
     -- one word more is written
@@ -97,10 +98,10 @@ module _ {U : Type 0} (lawful : U → PlainStore → Type 0) (allowed : U → Pl
         → ((i : ℕ) → i < n + 1 → Lasts s (first + i) (slice_index words i)) → Writes s first words
         (n + 1) u
     wrote_more before is low lasts = record {
-      same = same_sight lawful allowed t u (StoreOwn (first + n) w) w took refl refl ∙ before.same;
-      roots = roots_kept lawful allowed t u (StoreOwn (first + n) w) w took ∙ before.roots;
-      hand = hand_kept lawful allowed t u (StoreOwn (first + n) w) w took took.what refl ∙ before.hand;
-      known = λ v kept. (kept_stays lawful allowed t u (StoreOwn (first + n) w) w k.sound after took v
+      same = same_sight lawful allowed t u (Builds (StoreOwn (first + n) w)) w took refl refl ∙ before.same;
+      roots = roots_kept lawful allowed t u (Builds (StoreOwn (first + n) w)) w took ∙ before.roots;
+      hand = hand_kept lawful allowed t u (Builds (StoreOwn (first + n) w)) w took took.what refl ∙ before.hand;
+      known = λ v kept. (kept_stays lawful allowed t u (Builds (StoreOwn (first + n) w)) w k.sound after took v
           (kept_same s t before.roots before.hand v kept)).1
           ∙ before.known v kept;
       here = λ i less. dite (ℕ_discrete i n)
@@ -117,7 +118,7 @@ module _ {U : Type 0} (lawful : U → PlainStore → Type 0) (allowed : U → Pl
         back j x l = lasts_same s t before.roots before.hand j x l
 
         now : IsWritten u.part.draft.written (first + n) w
-        now = written_here lawful allowed t u (StoreOwn (first + n) w) w k.sound after took (first + n) w
+        now = written_here lawful allowed t u (Builds (StoreOwn (first + n) w)) w k.sound after took (first + n) w
             refl low
             (subst (Lasts t (first + n)) (sym is)
             (back (first + n) (slice_index words n) (lasts n (omega arith))))

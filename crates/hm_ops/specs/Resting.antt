@@ -5,22 +5,17 @@ use Rattle.hm_model.specs.declared.entry.Entry.{Entry}
 use Rattle.hm_model.specs.declared.root.Root.{Root}
 use Rattle.hm_model.specs.Store.{PlainStore}
 use Rattle.hm_model.specs.Calls.{IsOutside}
-use Rattle.hm_cells.specs.Facts.{Facts, Made, Fits, IsSound}
-
--- a caller holds at most so many versions
-abbrev pub most_resting : ℕ
-most_resting = 400
+use Rattle.hm_cells.specs.Facts.{Facts, Made, Fits, IsSound, IsAtRest, most_resting}
 
 -- within a call it has at most so many in hand: those that the references of one version name
 abbrev pub most_working : ℕ
 most_working = 4
 
 module _ {U : Type 0} where
-  -- a pass rests where it was made with the cells, has nothing in hand, and holds few versions
+  -- a pass rests with the cells that it was made with
   pub record IsResting (s : Facts U) (m : Made U) : Type 0 where
     pub fits : Fits s m
-    pub empty : s.hand ≡ []
-    pub few : length s.part.hands.held ≤ most_resting
+    pub rest : IsAtRest s
 
   -- a root place names a version
   abbrev pub IsAtPlace : Facts U → ℕ → Version → Type 0

@@ -1,7 +1,8 @@
 -- Walks along links, and loads of what a version holds.
 use Rattle.std.specs.Prelude.{◌≡◌, ◌≢◌, ℕ, ◌-◌, ◌<◌, Option, Some, None, slice_index_or}
 use Rattle.hm_shape.specs.declared.version.Version.{Version}
-use Rattle.hm_shape.specs.Versions.{version_count}
+use Rattle.hm_moves.specs.Places.{rank_limit}
+use Rattle.hm_moves.specs.Allowed.{done_seen}
 use Rattle.hm_model.specs.declared.object.Contents.{Contents}
 use Rattle.hm_model.specs.declared.entry.Entry.{Entry}
 use Rattle.hm_model.specs.declared.root.Root.{Root}
@@ -18,9 +19,9 @@ module _ {U : Type 0} where
   abbrev pub contents_at : Facts U → Version → Contents
   contents_at s v = (known_at s v).contents
 
-  -- ranks rise along links, and so many versions at most come behind one
+  -- ranks rise along links up to their limit, so at most so many versions come behind one
   abbrev pub ahead : Made U → Facts U → Version → ℕ
-  ahead m s v = version_count m.site.shape - (known_at s v).rank
+  ahead m s v = rank_limit m.site.shape (done_seen s.part) - (known_at s v).rank
 
   module _ (lawful : U → PlainStore → Type 0) (allowed : U → PlainStore → Entry → Type 0)
       (m : Made U) where

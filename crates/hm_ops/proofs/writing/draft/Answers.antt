@@ -27,4 +27,4 @@ pub returns-clause-keeps : goal.returns-clause-keeps
 returns-clause-keeps g c =
     let hand = c.write-3.ensures.wrote.hand ∙ (c.write-2.ensures.wrote.hand ∙ c.write.ensures.wrote.hand) in
     work_rests g.U.Usage.lawful g.U.Usage.allowed c.write-3.new.pass c.args.cells.now
-    c.write-3.ensures.works (hand ∙ c.requires.keeps.resting.empty)
+    c.write-3.ensures.works (hand ∙ c.requires.keeps.resting.rest.hand)

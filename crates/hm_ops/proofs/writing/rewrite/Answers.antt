@@ -30,4 +30,4 @@ returns-clause-copies g c =
 pub returns-clause-keeps : goal.returns-clause-keeps
 returns-clause-keeps g c =
     work_rests g.U.Usage.lawful g.U.Usage.allowed c.write_copy.new.pass c.args.cells.now
-    c.write_copy.ensures.works (c.write_copy.ensures.copies.hand ∙ c.requires.keeps.resting.empty)
+    c.write_copy.ensures.works (c.write_copy.ensures.copies.hand ∙ c.requires.keeps.resting.rest.hand)
