@@ -16,8 +16,8 @@ use Rattle.hm_model.specs.Store.{Refs, Numbers, IsSized}
 use Rattle.hm_model.specs.Effect.{new_contents}
 use Rattle.hm_model.specs.History.{side_names, starting_count, starting_name, IsSizedStart}
 use Rattle.hm_moves.specs.declared.part.Known.{Known}
-use Rattle.hm_moves.specs.Chain.{IsPublished, Refers, AreTrue, words_at, link_of, reference_at}
-use Rattle.hm_moves.specs.Places.{HasHead, only_to, row_count}
+use Rattle.hm_moves.specs.Chain.{IsPublished, Refers, words_at, reference_at}
+use Rattle.hm_moves.specs.Places.{only_to, row_count}
 use Rattle.hm_moves.specs.Fresh.{starting_known, side_known, common_known, all_known, fresh_index}
 use Rattle.hm_moves.specs.FirstWords.{AreFirst, LaysSide, count_word, first_words, head_words, known_words, laid_words}
 use Rattle.hm_moves.proofs.Fresh.{AreNumbered, numbered_at, numbered, many, known_at}

@@ -3,7 +3,7 @@ ghost use Rattle.std.specs.Prelude.{◌≡◌, ◌<◌, ◌≤◌, ◌++◌, ◌
 ghost use Rattle.std.specs.List.{flat_map};
 ghost use Rattle.hm_model.specs.History.{starting_count, IsSizedStart};
 ghost use Rattle.hm_moves.specs.Fresh.{all_known};
-ghost use Rattle.hm_moves.specs.FirstWords.{AreFirst, LaysSide, first_words as words_of_fresh, head_words, known_words};
+ghost use Rattle.hm_moves.specs.FirstWords.{AreFirst, LaysSide, first_words, head_words, known_words};
 
 use hm_model::Start;
 use hm_shape::{Role, Roles, Shape};
@@ -13,7 +13,7 @@ use std::alloc::{AllocError, Global};
 /// starting objects are the first versions.
 pub fn first_words(alloc: Global, shape: Shape, start: Start) -> Result<Vec<u64>, AllocError>
     requires { starting_count start ≤ shape.versions }
-    ensures words { IfOk result (λ words. words.items ≡ words_of_fresh shape start) }
+    ensures words { IfOk result (λ words. words.items ≡ first_words shape start) }
     ensures first { IfOk result (λ words. AreFirst shape start words.items) }
 {
     let mut words = head(alloc, shape)?;

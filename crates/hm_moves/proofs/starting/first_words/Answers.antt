@@ -5,7 +5,7 @@ use Rattle.std.specs.Vec.{vec_len}
 use Rattle.std.proofs.lemmas.List.{take_all}
 use Rattle.hm_shape.specs.Words.{word_count}
 use Rattle.hm_moves.specs.Fresh.{all_known}
-use Rattle.hm_moves.specs.FirstWords.{AreFirst, first_words, known_words, laid_words}
+use Rattle.hm_moves.specs.FirstWords.{AreFirst, known_words, laid_words}
 use Rattle.hm_moves.proofs.FirstWords.{first_are, laid_fits}
 use Rattle.hm_moves.proofs.starting.first_words.Goals as goal
 
