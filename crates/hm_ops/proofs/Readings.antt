@@ -162,6 +162,9 @@ module _ {U : Type 0} (lawful : U → PlainStore → Type 0) (allowed : U → Pl
           pub next_held : IsHeldAt t next
           next_held = here.0
 
+          pub next_taken : Contains t.hand next
+          next_taken = here.2
+
           pub some_read : (into : Root) (p u : Facts U) → IsRootedBeside into.0 s v
               → SetsRoot (sight_of t) (sight_of p) into.0 (place_name t.part.hands.held (Some next))
               → p ≡ with_root t into (Some next) → u ≡ with_hand p (without_first next p.hand)

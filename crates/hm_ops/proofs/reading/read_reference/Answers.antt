@@ -1,4 +1,6 @@
-use Rattle.hm_ops.proofs.Readings.{rooted_look, word_small, next_held, some_read, none_read, none_value}
+use Rattle.std.proofs.Common.{Contains, sym, subst}
+use Rattle.hm_cells.specs.Facts.{Facts}
+use Rattle.hm_ops.proofs.Readings.{rooted_look, word_small, next_held, next_taken, some_read, none_read, none_value}
 use Rattle.hm_ops.proofs.reading.read_reference.Goals as goal
 
 pub load_field-word-requires-clause-look : goal.load_field-word-requires-clause-look
@@ -14,6 +16,16 @@ set_root-requires-clause-held g c =
     next_held g.U.Usage.lawful g.U.Usage.allowed c.args.cells.now c.args.pass.now l.new.pass c.args.v
     l.result c.requires.keeps l.ensures.sound c.args.i c.requires.reference l.ensures.took
     c.in-Some.next (c.in-Some.ensures.named small)
+
+pub release-requires : goal.release-requires
+release-requires g c =
+    let l = c.load_field-word in
+    let small = word_small g.U.Usage.lawful g.U.Usage.allowed c.args.cells.now c.args.pass.now l.new.pass
+    c.args.v l.result c.requires.keeps l.ensures.sound c.args.i c.requires.reference l.ensures.took in
+    subst (λ (f : Facts g.row.U.Denot). Contains f.hand c.in-Some.next) (sym c.set_root.ensures.pass)
+    (next_taken g.U.Usage.lawful g.U.Usage.allowed c.args.cells.now c.args.pass.now l.new.pass c.args.v
+    l.result c.requires.keeps l.ensures.sound c.args.i c.requires.reference l.ensures.took
+    c.in-Some.next (c.in-Some.ensures.named small))
 
 pub returns-in-Some-clause-reads : goal.returns-in-Some-clause-reads
 returns-in-Some-clause-reads g c =
