@@ -1,5 +1,5 @@
 //! Runs of one call: as many calls in a row as are asked for.
-ghost use Rattle.std.specs.Prelude.{◌≡◌, ◌≤◌};
+ghost use Rattle.std.specs.Prelude.{◌≡◌, ◌<◌, ◌≤◌};
 ghost use Rattle.hm_model.specs.Sight.{IsSet};
 ghost use Rattle.hm_cells.specs.Facts.{sight_of};
 ghost use Rattle.hm_ops.specs.Resting.{IsResting};
@@ -28,6 +28,7 @@ pub(crate) fn make(
     requires set { IsSet (sight_of pass.old) record { 0 = 0 } }
     ensures made { Makes call result.made (sight_of pass.old) (sight_of pass.new) }
     ensures most { result.made ≤ count }
+    ensures full { result.made < count → (sight_of pass.new).room ≡ 0 }
     ensures rests { IsResting pass.new cells.now }
 {
     match call {
@@ -51,6 +52,7 @@ fn creates(cells: &Cells<AnyUsage>, pass: &mut Pass<AnyUsage>, count: u32) -> u3
     requires rests { IsResting pass.old cells.now }
     ensures made { Makes Call.Create result (sight_of pass.old) (sight_of pass.new) }
     ensures most { result ≤ count }
+    ensures full { result < count → (sight_of pass.new).room ≡ 0 }
     ensures rests { IsResting pass.new cells.now }
 {
     for i in 0..count {
@@ -81,6 +83,7 @@ fn stores(cells: &Cells<AnyUsage>, pass: &mut Pass<AnyUsage>, count: u32) -> u32
     requires set { IsSet (sight_of pass.old) record { 0 = 0 } }
     ensures made { Makes Call.Store result (sight_of pass.old) (sight_of pass.new) }
     ensures most { result ≤ count }
+    ensures full { result < count → (sight_of pass.new).room ≡ 0 }
     ensures rests { IsResting pass.new cells.now }
 {
     for i in 0..count {
