@@ -21,15 +21,15 @@ use Rattle.hm_model.proofs.HistoryFacts.{store_after-append, same_stamp}
 use Rattle.hm_model.proofs.SightFacts.{present-goes, well_made_present, goes_enters}
 use Rattle.hm_model.proofs.Nodes.{keeps_nodes_then, keeps_nodes_after, keeps_nodes_goes}
 use Rattle.hm_book.specs.declared.book.Resting.{Resting}
-use Rattle.hm_book.specs.Cells.{board_name, book_name, IsNode, IsInRange}
 use Rattle.hm_book.specs.Run.{next_effect, state_after}
 use Rattle.hm_book.specs.Sound.{IsSound}
-use Rattle.hm_book.specs.Agreed.{HasBook}
-use Rattle.hm_book.proofs.Agreeing.{has_kept, shows_kept}
 use Rattle.hm_book.proofs.Apart.{names_after}
-use Rattle.hm_book.proofs.Uncrossed.{uncrossed_after}
 use Rattle.hm_book.proofs.SoundSteps.{IsSound-state_after}
-use Rattle.hm_agreement.specs.declared.usage.BookUsage.{BookUsage}
+use Rattle.hm_agreement.specs.Cells.{board_name, book_name, IsNode, IsInRange}
+use Rattle.hm_agreement.specs.Agreed.{HasBook}
+use Rattle.hm_agreement.proofs.Agreeing.{has_kept, shows_kept}
+use Rattle.hm_agreement.proofs.Uncrossed.{uncrossed_after}
+use Rattle.hm_cellbook.specs.declared.usage.BookUsage.{BookUsage}
 use Rattle.hm_cellbook.specs.declared.attempt.Attempt.{Attempt}
 use Rattle.hm_cellbook.specs.Fetched.{book_lawful, book_allowed, book_node, fetched_contents, WasFetched}
 use Rattle.hm_cellbook.specs.Attempted.{state_at, next_contents, TellsOrder, Applies}
