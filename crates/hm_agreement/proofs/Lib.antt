@@ -1,0 +1,5 @@
+pub mod Uncrossed
+pub mod Agreeing
+pub mod OneBook
+pub mod BookStart
+pub mod SpelledRun

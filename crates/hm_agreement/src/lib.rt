@@ -1,6 +1,14 @@
-//! The usage of a heap that keeps an order book in cells: which stores are lawful, and which entries are allowed.
+//! When a store shows a book, and what the callers that keep it there agree to.
+//!
+//! The common object of the store names three sorted lists of cells, the bids, the asks and the resting ids of a plain
+//! book (`specs/Cells.antt`). A store is lawful where its common object has a book that agrees with its numbers, and an
+//! allowed conditional store makes of that book what one order makes of it (`specs/Agreed.antt`). So a history spells a
+//! list of orders (`specs/Spelled.antt`), and the law in `src/laws.rt` says that the book is their run.
+//!
+//! No code runs here: the definitions are cited by the crates above, and the proofs of the laws of a usage
+//! (`proofs/Agreeing.antt`) by the impl of that usage in hm_cellbook.
 #![tactic(auto)]
 
-mod usage;
+mod laws;
 
-pub use usage::{BookUsage, Lengths};
+pub use laws::the_book_of_a_lawful_history_is_the_run_of_its_orders;

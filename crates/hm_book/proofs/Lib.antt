@@ -17,8 +17,4 @@ pub mod TradesSound
 pub mod SoundSteps
 pub mod AfterLimit
 pub mod Apart
-pub mod Uncrossed
-pub mod Agreeing
-pub mod OneBook
-pub mod BookStart
-pub mod SpelledRun
+pub mod Runs

@@ -2,19 +2,13 @@
 ghost use Rattle.std.specs.Prelude.{◌≡◌, ◌↔◌, ◌<◌, ℕ, List, length, AllPairs, IfSome, IsNone};
 ghost use Rattle.hm_orders.specs.declared.order.Order.{Order};
 ghost use Rattle.hm_orders.specs.declared.order.Side.{Side};
-ghost use Rattle.hm_model.specs.declared.object.Start.{Start};
-ghost use Rattle.hm_model.specs.declared.entry.Entry.{Entry};
-ghost use Rattle.hm_model.specs.History.{store_of, opening_of};
-ghost use Rattle.hm_model.specs.Lawful.{IsLawful};
 ghost use Rattle.hm_book.specs.declared.book.Resting.{Resting};
 ghost use Rattle.hm_book.specs.declared.limits.Limits.{Limits};
 ghost use Rattle.hm_book.specs.Trading.{best_opposite, trades};
 ghost use Rattle.hm_book.specs.Best.{IsBest, NoneOpposes};
 ghost use Rattle.hm_book.specs.Queue.{can_trade, traded_along, IsQueue};
-ghost use Rattle.hm_book.specs.Run.{empty_state, state_after, state_after_all, BookState};
+ghost use Rattle.hm_book.specs.Run.{empty_state, state_after, BookState};
 ghost use Rattle.hm_book.specs.Sound.{IsSound};
-ghost use Rattle.hm_book.specs.Agreed.{IsLawfulBook, IsAllowedBook};
-ghost use Rattle.hm_book.specs.Spelled.{spelled, IsBookStart, HasState};
 
 /// The best opposite order is in the book and opposes the side, and no other that does goes before it. There is none
 /// exactly where no order of the book opposes the side.
@@ -39,14 +33,4 @@ pub fn a_book_stays_sound()
     ensures empty { IsSound empty_state }
     ensures next { (limits : Limits) (state : BookState) (order : Order)
         → IsSound state → IsSound (state_after limits state order) }
-{}
-
-/// A heap that starts with an empty book starts lawfully. After a lawful history its common object shows one book:
-/// what the orders that the history spells make of the empty book, one after another.
-pub fn the_book_of_a_lawful_history_is_the_run_of_its_orders()
-    ensures opening { (start : Start) → IsBookStart start → IsLawfulBook (store_of (opening_of start)) }
-    ensures history { (limits : Limits) (lengths : List ℕ) (start : Start) (history : List Entry)
-        → IsBookStart start
-        → IsLawful IsLawfulBook (IsAllowedBook limits lengths) start history
-        → HasState (store_of history) (state_after_all limits empty_state (spelled history)) }
 {}

@@ -1,10 +1,8 @@
 //! The order book: resting orders, and what an order that comes does to them.
 //!
-//! The book is plain here: a list of resting orders in order of root numbers, the numbers that are given to orders in
-//! the order of applying them. `specs/Trading.antt` and `specs/Effect.antt` say what one order does, and
-//! `specs/Run.antt` what a list of orders does and which report tells it. `specs/Cells.antt` and
-//! `specs/Agreed.antt` say when the store of a heap shows a book, and `specs/Spelled.antt` which orders led to it.
-//! `src/laws.rt` has laws of these definitions.
+//! The book is plain: a list of resting orders in order of root numbers, the numbers that are given to orders in the
+//! order of applying them. `specs/Trading.antt` and `specs/Effect.antt` say what one order does, and `specs/Run.antt`
+//! what a list of orders does and which report tells it. `src/laws.rt` has laws of these definitions.
 #![tactic(auto)]
 
 mod book;
@@ -15,10 +13,7 @@ mod queue;
 mod trading;
 
 pub use book::{Book, Memory, Resting};
-pub use laws::{
-    a_book_stays_sound, an_order_trades_along_its_queue, best_opposite_is_best,
-    the_book_of_a_lawful_history_is_the_run_of_its_orders,
-};
+pub use laws::{a_book_stays_sound, an_order_trades_along_its_queue, best_opposite_is_best};
 pub use limits::Limits;
 pub use priority::crosses;
 pub use trading::rest_of;

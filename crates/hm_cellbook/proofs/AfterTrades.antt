@@ -8,9 +8,9 @@ use Rattle.hm_orders.specs.Orders.{IsTradingSide, IsGiven, number_end}
 use Rattle.hm_book.specs.declared.book.Resting.{Resting}
 use Rattle.hm_book.specs.Trading.{next_maker, fill_with, after_fill, no_trade, trades}
 use Rattle.hm_book.specs.Effect.{has_name, rests, rest_of}
-use Rattle.hm_book.specs.Cells.{IsInRange}
 use Rattle.hm_book.proofs.Along.{trades_from}
 use Rattle.hm_book.proofs.Apart.{apart_trades, pairs_from_Apart, HaveOtherNames, other_names_same, none_rests, all_trades}
+use Rattle.hm_agreement.specs.Cells.{IsInRange}
 use Rattle.hm_cellbook.specs.Sides.{IsListable}
 use Rattle.hm_cellbook.proofs.Listable.{IsEarlier, earlier_same, names_apart, roots_apart, ranges_after_fill, listable_rest}
 

@@ -13,23 +13,23 @@ use Rattle.hm_model.specs.declared.root.Root.{Root}
 use Rattle.hm_model.specs.declared.root.Snapshot.{Snapshot}
 use Rattle.hm_model.specs.Store.{Refs, PlainStore, contents_of}
 use Rattle.hm_model.specs.History.{store_after}
-use Rattle.hm_model.specs.Lawful.{KeepsNodes}
-use Rattle.hm_model.specs.Sight.{Sight, name_at, root_of, present, OthersLead}
+use Rattle.hm_model.specs.Lawful.{KeepsNodes, OthersLead}
+use Rattle.hm_model.specs.Sight.{Sight, name_at, root_of, present}
 use Rattle.hm_model.specs.Building.{Builds}
 use Rattle.hm_model.specs.Calls.{FetchesAll, MayStore, MayStoreIf, StoresAll, snapshot_of}
 use Rattle.hm_model.proofs.HistoryFacts.{store_after-append, same_stamp}
 use Rattle.hm_model.proofs.SightFacts.{present-goes, well_made_present, goes_enters}
 use Rattle.hm_model.proofs.Nodes.{keeps_nodes_then, keeps_nodes_after, keeps_nodes_goes}
 use Rattle.hm_book.specs.declared.book.Resting.{Resting}
-use Rattle.hm_book.specs.Cells.{board_name, book_name, IsNode, IsInRange}
 use Rattle.hm_book.specs.Run.{next_effect, state_after}
 use Rattle.hm_book.specs.Sound.{IsSound}
-use Rattle.hm_book.specs.Agreed.{HasBook}
-use Rattle.hm_book.proofs.Agreeing.{has_kept, shows_kept}
 use Rattle.hm_book.proofs.Apart.{names_after}
-use Rattle.hm_book.proofs.Uncrossed.{uncrossed_after}
 use Rattle.hm_book.proofs.SoundSteps.{IsSound-state_after}
-use Rattle.hm_agreement.specs.declared.usage.BookUsage.{BookUsage}
+use Rattle.hm_agreement.specs.Cells.{board_name, book_name, IsNode, IsInRange}
+use Rattle.hm_agreement.specs.Agreed.{HasBook}
+use Rattle.hm_agreement.proofs.Agreeing.{has_kept, shows_kept}
+use Rattle.hm_agreement.proofs.Uncrossed.{uncrossed_after}
+use Rattle.hm_cellbook.specs.declared.usage.BookUsage.{BookUsage}
 use Rattle.hm_cellbook.specs.declared.attempt.Attempt.{Attempt}
 use Rattle.hm_cellbook.specs.Fetched.{book_lawful, book_allowed, book_node, fetched_contents, WasFetched}
 use Rattle.hm_cellbook.specs.Attempted.{state_at, next_contents, TellsOrder, Applies}
@@ -90,7 +90,7 @@ module _ (c d : Sight BookUsage) (at : Snapshot) (w : WasFetched c at) (most : â
   attempt_keeps : KeepsNodes IsNode (present c) (present d)
   attempt_keeps = keeps_nodes_goes book_lawful book_allowed book_node node_laws c d builds.own builds.goes
 
-  module _ (s : PlainStore) (lead : OthersLead book_lawful book_allowed d s) where
+  module _ (s : PlainStore) (lead : OthersLead (book_lawful d.usage) (book_allowed d.usage) d.seen d.number s) where
     lead_keeps : KeepsNodes IsNode (present d) s
     lead_keeps =
         subst (KeepsNodes IsNode (present d)) (sym lead.here)

@@ -10,9 +10,9 @@ use Rattle.hm_list.specs.Pairs.{is_less, first_of}
 use Rattle.hm_book.specs.declared.book.Resting.{Resting}
 use Rattle.hm_book.specs.Best.{IsBest}
 use Rattle.hm_book.specs.Trading.{opposes, goes_before, better_of, best_opposite}
-use Rattle.hm_book.specs.Cells.{IsInRange, in_order}
 use Rattle.hm_book.proofs.Best.{best_opposite-best}
 use Rattle.hm_book.proofs.Members.{at_member}
+use Rattle.hm_agreement.specs.Cells.{IsInRange, in_order}
 use Rattle.hm_cellbook.specs.Sides.{opposite, pair_on}
 use Rattle.hm_cellbook.proofs.Changing.{lesser_of, first_inserted}
 use Rattle.hm_cellbook.proofs.Kept.{listed}

@@ -14,10 +14,10 @@ use Rattle.hm_model.specs.Sight.{Sight, name_at, present, Goes}
 use Rattle.hm_model.proofs.HistoryFacts.{store_after-append, all_come_parts}
 use Rattle.hm_model.proofs.Nodes.{keeps_nodes_after, keeps_nodes_goes}
 use Rattle.hm_book.specs.declared.book.Resting.{Resting}
-use Rattle.hm_book.specs.Cells.{board_name, book_name, IsNode}
-use Rattle.hm_book.specs.Agreed.{HasBook, IsLawfulBook}
-use Rattle.hm_book.proofs.Agreeing.{has_kept, book_node_laws}
-use Rattle.hm_agreement.specs.declared.usage.BookUsage.{BookUsage}
+use Rattle.hm_agreement.specs.Cells.{board_name, book_name, IsNode}
+use Rattle.hm_agreement.specs.Agreed.{HasBook, IsLawfulBook}
+use Rattle.hm_agreement.proofs.Agreeing.{has_kept, book_node_laws}
+use Rattle.hm_cellbook.specs.declared.usage.BookUsage.{BookUsage}
 use Rattle.hm_cellbook.specs.Fetched.{book_lawful, book_allowed, book_node, fetched_contents, WasFetched}
 
 -- the laws of nodes under a usage of the book

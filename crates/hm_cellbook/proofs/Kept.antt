@@ -8,7 +8,7 @@ use Rattle.hm_list.specs.declared.key.Key.{Key}
 use Rattle.hm_list.specs.declared.key.Pair.{Pair}
 use Rattle.hm_list.specs.Pairs.{is_same, insert, delete}
 use Rattle.hm_book.specs.declared.book.Resting.{Resting}
-use Rattle.hm_book.specs.Cells.{in_order}
+use Rattle.hm_agreement.specs.Cells.{in_order}
 use Rattle.hm_cellbook.proofs.Changing.{length_inserted}
 use Rattle.hm_cellbook.proofs.Listing.{HasNoKey, in_order_without, in_order_with, in_order_added}
 

@@ -11,7 +11,6 @@ pub mod Fetching
 pub mod Attempts
 pub mod Lists
 pub mod Makers
-pub mod Clearing
 pub mod Trades
 pub mod Outcomes
 pub mod Next

@@ -6,11 +6,11 @@ use Rattle.std.proofs.lemmas.List.Elements.{All-from_recursion, recursion_from_A
 use Rattle.hm_book.specs.declared.book.Resting.{Resting}
 use Rattle.hm_book.specs.Trading.{after_taking, after_fill}
 use Rattle.hm_book.specs.Effect.{has_name, rests}
-use Rattle.hm_book.specs.Cells.{IsInRange}
 use Rattle.hm_book.proofs.Members.{AllByRecursion-append}
 use Rattle.hm_book.proofs.Rising.{Rises, Rises-from_pairs, pairs_from_Rises, Rises-after_fill, Splits}
 use Rattle.hm_book.proofs.Taking.{after_fill-at, after_taking-some}
 use Rattle.hm_book.proofs.Apart.{Apart, apart_append, apart_after_fill, Apart-from_pairs, pairs_from_Apart, HaveOtherNames, other_names_same, none_rests, each_weaker}
+use Rattle.hm_agreement.specs.Cells.{IsInRange}
 use Rattle.hm_cellbook.specs.Sides.{IsListable}
 
 -- what is left of an order in range is in range, where something is

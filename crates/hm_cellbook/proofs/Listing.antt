@@ -5,7 +5,7 @@ use Rattle.hm_list.specs.declared.key.Key.{Key}
 use Rattle.hm_list.specs.declared.key.Pair.{Pair}
 use Rattle.hm_list.specs.Pairs.{is_same, AreInOrder, insert, delete}
 use Rattle.hm_list.proofs.OrderFacts.{insert_in_order}
-use Rattle.hm_book.specs.Cells.{in_order}
+use Rattle.hm_agreement.specs.Cells.{in_order}
 use Rattle.hm_cellbook.proofs.Changing.{inserts_commute, inserts_replace, delete_inserted, delete_commutes}
 
 -- no pair has this key

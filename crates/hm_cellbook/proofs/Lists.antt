@@ -16,8 +16,8 @@ use Rattle.hm_list.specs.Places.{SameOutside, SameOutsideBut}
 use Rattle.hm_list.proofs.Finite.{list_stays}
 use Rattle.hm_book.specs.declared.book.Resting.{Resting}
 use Rattle.hm_book.specs.Trading.{after_fill}
-use Rattle.hm_book.specs.Cells.{id_of, ids_of}
-use Rattle.hm_agreement.specs.declared.usage.BookUsage.{BookUsage}
+use Rattle.hm_agreement.specs.Cells.{id_of, ids_of}
+use Rattle.hm_cellbook.specs.declared.usage.BookUsage.{BookUsage}
 use Rattle.hm_cellbook.specs.Fetched.{book_lawful, book_allowed, book_node}
 use Rattle.hm_cellbook.specs.Sides.{opposite, pairs_on, pair_on, IsListable}
 use Rattle.hm_cellbook.specs.Working.{place_of, ids_place, HasPairs, WorksOn}

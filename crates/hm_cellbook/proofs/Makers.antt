@@ -15,9 +15,9 @@ use Rattle.hm_list.specs.Cells.{pairs_at}
 use Rattle.hm_book.specs.declared.book.Resting.{Resting}
 use Rattle.hm_book.specs.Best.{IsBest}
 use Rattle.hm_book.specs.Trading.{best_opposite, if_crossed, crosses}
-use Rattle.hm_book.specs.Cells.{IsInRange}
 use Rattle.hm_book.proofs.Best.{best_opposite-best}
-use Rattle.hm_agreement.specs.declared.usage.BookUsage.{BookUsage}
+use Rattle.hm_agreement.specs.Cells.{IsInRange}
+use Rattle.hm_cellbook.specs.declared.usage.BookUsage.{BookUsage}
 use Rattle.hm_cellbook.specs.Sides.{opposite, pair_on, IsListable}
 use Rattle.hm_cellbook.specs.Working.{place_of, WorksOn, IsPairOf}
 use Rattle.hm_cellbook.proofs.Sides.{opposite_is, opposite_trades, best_is_first}

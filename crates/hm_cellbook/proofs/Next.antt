@@ -24,15 +24,15 @@ use Rattle.hm_list.proofs.ListFacts.{list_rests}
 use Rattle.hm_list.proofs.Finite.{listed}
 use Rattle.hm_book.specs.declared.book.Resting.{Resting}
 use Rattle.hm_book.specs.declared.limits.Limits.{Limits}
-use Rattle.hm_book.specs.Agreed.{HasBook}
-use Rattle.hm_book.specs.Cells.{HoldsOrder, IsInRange, IsNode, bids_of, asks_of, ids_of, ShowsBook}
 use Rattle.hm_book.specs.Effect.{Effect, trade_effect}
 use Rattle.hm_book.specs.Limits.{admits}
 use Rattle.hm_book.specs.Run.{next_effect}
 use Rattle.hm_book.specs.Sound.{IsSound}
 use Rattle.hm_book.proofs.Effects.{effect_of-limit}
 use Rattle.hm_book.proofs.SoundSteps.{IsSound-state_after}
-use Rattle.hm_agreement.specs.declared.usage.BookUsage.{BookUsage}
+use Rattle.hm_agreement.specs.Agreed.{HasBook}
+use Rattle.hm_agreement.specs.Cells.{HoldsOrder, IsInRange, IsNode, bids_of, asks_of, ids_of, ShowsBook}
+use Rattle.hm_cellbook.specs.declared.usage.BookUsage.{BookUsage}
 use Rattle.hm_cellbook.specs.declared.attempt.Attempt.{Attempt}
 use Rattle.hm_cellbook.specs.Cost.{cost, cells_cost}
 use Rattle.hm_cellbook.specs.Fetched.{book_lawful, book_allowed, book_node, fetched_contents, WasFetched}

@@ -7,9 +7,9 @@ use Rattle.hm_orders.specs.declared.order.Side.TheVariants.{Buy, Sell, Neither}
 use Rattle.hm_orders.specs.Orders.{IsTradingSide}
 use Rattle.hm_list.specs.Pairs.{is_same}
 use Rattle.hm_book.specs.declared.book.Resting.{Resting}
-use Rattle.hm_book.specs.Cells.{is_buying, is_selling, bid_of, ask_of, id_of, in_order, ids_of}
 use Rattle.hm_book.proofs.Members.{AllByRecursion-weaker}
 use Rattle.hm_book.proofs.Apart.{Apart, HaveOtherNames}
+use Rattle.hm_agreement.specs.Cells.{is_buying, is_selling, bid_of, ask_of, id_of, in_order, ids_of}
 use Rattle.hm_cellbook.specs.Sides.{opposite, pairs_on, pair_on}
 use Rattle.hm_cellbook.proofs.KeyFacts.{same_itself, same_back}
 use Rattle.hm_cellbook.proofs.Kept.{listed, NoneHasKey, all_kept}

@@ -15,12 +15,12 @@ use Rattle.hm_list.specs.declared.key.Key.{Key}
 use Rattle.hm_list.specs.Pairs.{lookup}
 use Rattle.hm_list.specs.Cells.{pairs_at}
 use Rattle.hm_book.specs.declared.book.Resting.{Resting}
-use Rattle.hm_book.specs.Cells.{IsInRange}
 use Rattle.hm_book.specs.Trading.{Traded, trades}
 use Rattle.hm_book.specs.Effect.{Effect, rests, rest_of, keeps_rest, no_fill, traded_as, effect_after, trade_effect}
 use Rattle.hm_book.proofs.Rising.{Rises-from_pairs}
 use Rattle.hm_book.proofs.TradesSound.{trades_few}
-use Rattle.hm_agreement.specs.declared.usage.BookUsage.{BookUsage}
+use Rattle.hm_agreement.specs.Cells.{IsInRange}
+use Rattle.hm_cellbook.specs.declared.usage.BookUsage.{BookUsage}
 use Rattle.hm_cellbook.specs.Cost.{cells_cost}
 use Rattle.hm_cellbook.specs.Fetched.{book_lawful, book_allowed}
 use Rattle.hm_cellbook.specs.Sides.{IsListable}
@@ -164,7 +164,7 @@ module _ (order : Order) (root made : ℕ) (book : List Resting)
                   (sym same))
 
 -- fetches and trading build no more than the effect may cost
-pub traded_cost : (c d e : Sight BookUsage) (n m k : ℕ) → k ≡ n → Builds book_lawful book_allowed c d 0
+traded_cost : (c d e : Sight BookUsage) (n m k : ℕ) → k ≡ n → Builds book_lawful book_allowed c d 0
     → Builds book_lawful book_allowed d e (2 * n * (m + 9))
     → Builds book_lawful book_allowed c e (cells_cost k m)
 traded_cost c d e n m k is fetches trades =
@@ -173,7 +173,7 @@ traded_cost c d e n m k is fetches trades =
     (builds_then book_lawful book_allowed c d e 0 (2 * n * (m + 9)) fetches trades)
 
 -- nor does resting after it
-pub rested_cost : (c d e f : Sight BookUsage) (n m k w : ℕ) → k ≡ n → w ≤ m
+rested_cost : (c d e f : Sight BookUsage) (n m k w : ℕ) → k ≡ n → w ≤ m
     → Builds book_lawful book_allowed c d 0
     → Builds book_lawful book_allowed d e (2 * n * (m + 9))
     → Builds book_lawful book_allowed e f (2 * (w + 9))
@@ -184,3 +184,43 @@ rested_cost c d e f n m k w is few fetches trades rests =
     (omega arith)
     (builds_then book_lawful book_allowed c e f (0 + 2 * n * (m + 9)) (2 * (w + 9))
     (builds_then book_lawful book_allowed c d e 0 (2 * n * (m + 9)) fetches trades) rests)
+
+-- an order that is new begins on a book
+pub record IsNew (c : Sight BookUsage) (order : Order) (root resting : ℕ) (book : List Resting)
+    : Type 0 where
+  pub new : rests order.file order.id book ≡ false
+  pub begins : BeginsOn c root resting book
+
+-- so it does where its caller has looked for its id and not found it
+pub looked_new : (c d : Sight BookUsage) (order : Order) (root resting : ℕ) (found : Bool)
+    (book : List Resting)
+    → ((b : List Resting) → WorksOn c b → found ≡ rests order.file order.id b)
+    → ((b : List Resting) → WorksOn c b → WorksOn d b) → found ≡ false → BeginsOn c root resting book
+    → IsNew d order root resting book
+looked_new c d order root resting found book told works none h = record {
+  new = sym (told book h.works) ∙ none;
+  begins = begins_on c d root resting book h (works book h.works);
+}
+
+module _ (c d e : Sight BookUsage) (order : Order) (root resting made : ℕ) (book : List Resting)
+    (is : IsNew d order root resting book) (fetches : Builds book_lawful book_allowed c d 0)
+    (trading : (b : List Resting) → BeginsOn d root resting b
+    → Builds book_lawful book_allowed d e (2 * length
+    (trades (length b) order root (made + 1) order.quantity b).fills * (length b + 9))) where
+  -- a new order that trades builds no more than its effect may cost
+  pub traded_builds : Builds book_lawful book_allowed c e
+      (cells_cost (length (trade_effect order root made book).fills) (length book))
+  traded_builds = traded_cost c d e _ (length book) _
+      (ap (λ (l : List Fill). length l) (effect_fills order root made book is.new)) fetches
+      (trading book is.begins)
+
+  -- nor does one of which something is left, which rests
+  pub rested_builds : (f : Sight BookUsage) (fills : List Fill) (left count : ℕ) → 0 < left
+      → HasTraded e (trades (length book) order root (made + 1) order.quantity book) fills left count
+      → ((b : List Resting) → WorksOn e b → Builds book_lawful book_allowed e f (2 * (length b + 9)))
+      → Builds book_lawful book_allowed c f
+      (cells_cost (length (trade_effect order root made book).fills) (length book))
+  rested_builds f fills left count some traded resting' = rested_cost c d e f _ (length book) _ _
+      (ap (λ (l : List Fill). length l) (effect_fills order root made book is.new))
+      (left_few order root made book is.new e fills left count traded some is.begins.works.listable)
+      fetches (trading book is.begins) (resting' _ traded.works)

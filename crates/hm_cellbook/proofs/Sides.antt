@@ -13,11 +13,11 @@ use Rattle.hm_list.specs.Pairs.{AreInOrder, first_of, lookup, insert, delete}
 use Rattle.hm_book.specs.declared.book.Resting.{Resting}
 use Rattle.hm_book.specs.Trading.{opposes, best_opposite, after_fill}
 use Rattle.hm_book.specs.Effect.{has_name, rests}
-use Rattle.hm_book.specs.Cells.{IsInRange, id_of, in_order, ids_of}
 use Rattle.hm_book.proofs.Members.{AllByRecursion-weaker}
 use Rattle.hm_book.proofs.Rising.{Splits, split_at}
 use Rattle.hm_book.proofs.Taking.{after_fill-all, length-after_fill_all}
 use Rattle.hm_book.proofs.Apart.{Apart, HaveOtherNames, other_names_same}
+use Rattle.hm_agreement.specs.Cells.{IsInRange, id_of, in_order, ids_of}
 use Rattle.hm_cellbook.specs.Sides.{opposite, pairs_on, pair_on, IsListable}
 use Rattle.hm_cellbook.proofs.Changing.{lookup_inserted}
 use Rattle.hm_cellbook.proofs.Listing.{in_order_is}

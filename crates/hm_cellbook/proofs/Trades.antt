@@ -12,7 +12,7 @@ use Rattle.hm_model.proofs.BuildingFacts.{builds_none, builds_then, builds_more}
 use Rattle.hm_book.specs.declared.book.Resting.{Resting}
 use Rattle.hm_book.specs.Trading.{best_opposite, if_crossed, next_maker, fill_with, after_fill, book_after, Traded, no_trade, with_fill, trades}
 use Rattle.hm_book.proofs.Taking.{length-after_fill}
-use Rattle.hm_agreement.specs.declared.usage.BookUsage.{BookUsage}
+use Rattle.hm_cellbook.specs.declared.usage.BookUsage.{BookUsage}
 use Rattle.hm_cellbook.specs.Fetched.{book_lawful, book_allowed}
 use Rattle.hm_cellbook.specs.Working.{WorksOn, BeginsOn, HasTraded}
 use Rattle.hm_cellbook.proofs.Sides.{length_used_up, length_left_over}

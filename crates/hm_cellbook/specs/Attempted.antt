@@ -5,9 +5,9 @@ use Rattle.hm_model.specs.declared.object.Contents.{Contents}
 use Rattle.hm_model.specs.declared.root.Snapshot.{Snapshot}
 use Rattle.hm_model.specs.Sight.{Sight, name_at, names_of, present}
 use Rattle.hm_book.specs.declared.book.Resting.{Resting}
-use Rattle.hm_book.specs.Cells.{board_name, HoldsOrder, ShowsBook}
 use Rattle.hm_book.specs.Run.{BookState, done_of, state_after}
-use Rattle.hm_agreement.specs.declared.usage.BookUsage.{BookUsage}
+use Rattle.hm_agreement.specs.Cells.{board_name, HoldsOrder, ShowsBook}
+use Rattle.hm_cellbook.specs.declared.usage.BookUsage.{BookUsage}
 use Rattle.hm_list.specs.declared.key.Refused.{Refused}
 use Rattle.hm_list.specs.declared.key.Refused.TheVariants as refusal
 use Rattle.hm_cellbook.specs.declared.attempt.Attempt.{Attempt}

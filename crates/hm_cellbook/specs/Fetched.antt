@@ -8,9 +8,9 @@ use Rattle.hm_model.specs.declared.root.Snapshot.{Snapshot}
 use Rattle.hm_model.specs.Store.{PlainStore}
 use Rattle.hm_model.specs.Sight.{Sight, name_at, HasHistory}
 use Rattle.hm_model.specs.Calls.{snapshot_of}
-use Rattle.hm_book.specs.Cells.{book_name, IsNode}
-use Rattle.hm_book.specs.Agreed.{IsLawfulBook, IsAllowedBook}
-use Rattle.hm_agreement.specs.declared.usage.BookUsage.{BookUsage}
+use Rattle.hm_agreement.specs.Cells.{book_name, IsNode}
+use Rattle.hm_agreement.specs.Agreed.{IsLawfulBook, IsAllowedBook}
+use Rattle.hm_cellbook.specs.declared.usage.BookUsage.{BookUsage}
 
 -- the usage of a book has lawful stores
 abbrev pub book_lawful : BookUsage → PlainStore → Type 0

@@ -5,7 +5,7 @@ use Rattle.hm_orders.specs.declared.order.Side.TheVariants.{Buy, Sell, Neither}
 use Rattle.hm_list.specs.declared.key.Pair.{Pair}
 use Rattle.hm_book.specs.declared.book.Resting.{Resting}
 use Rattle.hm_book.specs.Effect.{has_name}
-use Rattle.hm_book.specs.Cells.{IsInRange, bid_of, ask_of, bids_of, asks_of}
+use Rattle.hm_agreement.specs.Cells.{IsInRange, bid_of, ask_of, bids_of, asks_of}
 
 -- the side with which a side trades
 abbrev pub opposite : Side → Side

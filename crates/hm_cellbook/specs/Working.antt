@@ -9,10 +9,10 @@ use Rattle.hm_model.specs.Sight.{Sight}
 use Rattle.hm_list.specs.declared.key.Pair.{Pair}
 use Rattle.hm_list.specs.Cells.{pairs_at, HasList}
 use Rattle.hm_book.specs.declared.book.Resting.{Resting}
-use Rattle.hm_book.specs.Cells.{IsInRange, bids_of, asks_of, ids_of}
 use Rattle.hm_book.specs.Trading.{Traded}
 use Rattle.hm_book.specs.Effect.{Effect}
-use Rattle.hm_agreement.specs.declared.usage.BookUsage.{BookUsage}
+use Rattle.hm_agreement.specs.Cells.{IsInRange, bids_of, asks_of, ids_of}
+use Rattle.hm_cellbook.specs.declared.usage.BookUsage.{BookUsage}
 use Rattle.hm_cellbook.specs.Fetched.{book_node}
 use Rattle.hm_cellbook.specs.Sides.{pair_on, IsListable}
 

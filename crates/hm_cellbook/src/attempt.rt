@@ -1,25 +1,25 @@
 //! An attempt at an order: the next lists are built, and no object is stored to.
-ghost use Rattle.std.specs.Prelude.{◌≡◌, ◌+◌, ◌-◌, ◌<◌, ◌≤◌, [], ◌∷◌, ℕ, List, Some, IsTrue, IfSome, IfOk, OnErr, Err, length, slice_index};
+ghost use Rattle.std.specs.Prelude.{◌≡◌, ◌+◌, ◌-◌, ◌<◌, ◌≤◌, [], ◌∷◌, ℕ, List, Some, IsTrue, IfOk, OnErr, Err, length, slice_index};
 ghost use Rattle.hm_orders.specs.declared.order.Kind.TheVariants.{Limit};
 ghost use Rattle.hm_orders.specs.Orders.{IsWellFormed};
 ghost use Rattle.hm_model.specs.declared.root.Root.{Root};
-ghost use Rattle.hm_model.specs.Sight.{AreSet, IsSet, Rests, name_at, name_of, names_of, present, root_of};
+ghost use Rattle.hm_model.specs.Sight.{AreSet, Rests, name_at, names_of, present};
 ghost use Rattle.hm_model.specs.Building.{Builds};
 ghost use Rattle.hm_model.specs.Calls.{MayStoreIf};
 ghost use Rattle.hm_list.specs.Places.{AreUnset, SameOutside};
 ghost use Rattle.hm_book.specs.declared.book.Resting.{Resting};
-ghost use Rattle.hm_book.specs.Agreed.{HasBook};
-ghost use Rattle.hm_book.specs.Cells.{HoldsOrder, book_name, kind_number};
 ghost use Rattle.hm_book.specs.Limits.{admits};
 ghost use Rattle.hm_book.specs.Run.{next_effect};
+ghost use Rattle.hm_agreement.specs.Agreed.{HasBook};
+ghost use Rattle.hm_agreement.specs.Cells.{HoldsOrder, book_name, kind_number};
 ghost use Rattle.hm_cellbook.specs.Cost.{cost};
 ghost use Rattle.hm_cellbook.specs.Fetched.{book_allowed, book_lawful, fetched_contents, WasFetched};
 ghost use Rattle.hm_cellbook.specs.Attempted.{state_at, Applies, TellsOrder};
 
 use crate::outcome::apply;
 use crate::pairs::side_number;
-use hm_agreement::BookUsage;
-use hm_list::Refused;
+use crate::usage::BookUsage;
+use hm_list::{Refused, clear_places, set_place};
 use hm_model::{Caller, Root, Snapshot};
 use hm_orders::{Done, Fills, Kind, Order};
 use std::alloc::{AllocError, AllocFailed, Global};
@@ -78,27 +78,6 @@ fn copy_lists<C: Caller<BookUsage>>(c: &mut C)
     c.copy_root(Root(6), Root(10));
 }
 
-/// Unsets the places from 8 on.
-fn clear_places<C: Caller<BookUsage>>(c: &mut C)
-    ensures rests { Rests (C.sight c.old) (C.sight c.new) }
-    ensures names { (k : ℕ) → k < 8
-        → name_at (C.sight c.new).roots k ≡ name_at (C.sight c.old).roots k }
-    ensures unset { AreUnset (C.sight c.new) 8 256 }
-{
-    for i in 8..256u32 {
-        c.clear_root(Root(i));
-    }
-}
-
-/// The place, if it is set.
-fn if_set<C: Caller<BookUsage>>(c: &C, at: Root) -> Option<Root>
-    requires { at.0 < 256 }
-    ensures name { name_of (C.sight c.now) result ≡ root_of (C.sight c.now) at }
-    ensures set { IfSome result (IsSet (C.sight c.now)) }
-{
-    if c.is_set(at) { Some(at) } else { None }
-}
-
 /// The places of the three lists and of the board.
 fn refs_of<C: Caller<BookUsage>>(c: &C) -> [Option<Root>; 4]
     ensures names { names_of (C.sight c.now) result
@@ -107,10 +86,10 @@ fn refs_of<C: Caller<BookUsage>>(c: &C) -> [Option<Root>; 4]
     ensures set { AreSet (C.sight c.now) result }
 {
     [
-        if_set(c, Root(8)),
-        if_set(c, Root(9)),
-        if_set(c, Root(10)),
-        if_set(c, Root(7)),
+        set_place(c, Root(8)),
+        set_place(c, Root(9)),
+        set_place(c, Root(10)),
+        set_place(c, Root(7)),
     ]
 }
 
@@ -236,7 +215,7 @@ pub fn cell_apply<C: Caller<BookUsage>>(
     match build_next(alloc, c, at, o) {
         Ok(attempt) => Ok(attempt),
         Err(refused) => {
-            clear_places(c);
+            clear_places(c, Root(8), Root(256));
             Err(refused)
         }
     }

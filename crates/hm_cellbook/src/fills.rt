@@ -10,7 +10,7 @@ ghost use Rattle.hm_cellbook.specs.Working.{Begins, BeginsOn, HasTraded, IsWorki
 
 use crate::attempt::AttemptRefused;
 use crate::pairs::{TOP, id_key, ids_place, key_on, opposite, pair_on, place_of, resting_in};
-use hm_agreement::BookUsage;
+use crate::usage::BookUsage;
 use hm_book::{Resting, crosses};
 use hm_list::{first, put, remove};
 use hm_model::Caller;

@@ -5,7 +5,7 @@
 //! what a fetch of the common object answered. It builds the lists that the next order leaves beside the old ones, so
 //! that whoever still names those reads what they held, and stores to no object. The book is changed where its caller
 //! stores the [`Attempt`] into the common object by one conditional store, which fails where the book has changed since
-//! the fetch.
+//! the fetch. [`BookUsage`] is what the callers of the store agree to.
 //!
 //! | Root places | Name |
 //! |---|---|
@@ -21,5 +21,7 @@ mod attempt;
 mod fills;
 mod outcome;
 mod pairs;
+mod usage;
 
 pub use attempt::{Attempt, AttemptRefused, cell_apply};
+pub use usage::{BookUsage, Lengths};

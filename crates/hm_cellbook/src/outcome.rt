@@ -14,7 +14,7 @@ ghost use Rattle.hm_cellbook.specs.Working.{Begins, BeginsOn, HasEffect, IsWorki
 use crate::attempt::AttemptRefused;
 use crate::fills::trade;
 use crate::pairs::{TOP, id_key, id_of, ids_place, pair_on, place_of};
-use hm_agreement::BookUsage;
+use crate::usage::BookUsage;
 use hm_book::{Resting, rest_of};
 use hm_list::{find, put};
 use hm_model::Caller;

@@ -2,7 +2,7 @@
 ghost use Rattle.std.specs.Prelude.{◌≡◌};
 ghost use Rattle.hm_list.specs.declared.key.Pair.{Pair};
 ghost use Rattle.hm_book.specs.declared.book.Resting.{Resting};
-ghost use Rattle.hm_book.specs.Cells.{id_of, side_number};
+ghost use Rattle.hm_agreement.specs.Cells.{id_of, side_number};
 ghost use Rattle.hm_cellbook.specs.Sides.{opposite, pair_on};
 ghost use Rattle.hm_cellbook.specs.Working.{ids_place, place_of, IsPairOf};
 

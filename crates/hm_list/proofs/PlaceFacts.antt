@@ -36,16 +36,13 @@ module _ {U : Type 0} where
       record { below = λ k lt. h.below k (omega arith); above = λ k le. h.above k (omega arith) }
 
   -- one more place is unset
-  pub cleared_more : (c d f : Sight U) (top i : ℕ) → SameOutside c d top (top + 6) → AreUnset d top (top + i)
-      → i < 6 → SetsRoot d f (top + i) None
-      → SameOutside c f top (top + 6) × AreUnset f top (top + (i + 1))
-  cleared_more c d f top i same unset few sets = (
-    outside_then c d f top (top + 6) same
-        (outside_sets d f (top + i) top (top + 6) None (omega arith) (omega arith) sets),
-    (λ k low high. ⊎_elim
-        (λ (is : k ≡ top + i). subst (λ (j : ℕ). name_at f.roots j ≡ None) (sym is) sets.here)
-        (λ (no' : k ≢ top + i). sets.others k no' ∙ unset k low (omega arith))
-        (here_or_not k (top + i))),
+  pub cleared_more : (c d f : Sight U) (from to i : ℕ) → SameOutside c d from to → AreUnset d from i
+      → from ≤ i → i < to → SetsRoot d f i None → SameOutside c f from to × AreUnset f from (i + 1)
+  cleared_more c d f from to i same unset low high sets = (
+    outside_then c d f from to same (outside_sets d f i from to None low high sets),
+    (λ k least most. ⊎_elim
+        (λ (is : k ≡ i). subst (λ (j : ℕ). name_at f.roots j ≡ None) (sym is) sets.here)
+        (λ (no' : k ≢ i). sets.others k no' ∙ unset k least (omega arith)) (here_or_not k i)),
   )
     where
       here_or_not : (k j : ℕ) → (k ≡ j) ⊎ (k ≢ j)

@@ -1,6 +1,6 @@
 //! Changing a list of cells: its front is made anew.
-ghost use Rattle.std.specs.Prelude.{◌≡◌, ◌<◌, ◌≤◌, ◌+◌, [], ◌∷◌, IfOk, OnOk, OnErr, IfSome, Ok, Err, false, length, is_some, if◌then◌else◌};
-ghost use Rattle.hm_model.specs.Sight.{IsSet, Rests, root_of, name_at, name_of};
+ghost use Rattle.std.specs.Prelude.{◌≡◌, ◌<◌, ◌≤◌, ◌+◌, [], ◌∷◌, IfOk, OnOk, OnErr, Ok, Err, false, length, is_some, if◌then◌else◌};
+ghost use Rattle.hm_model.specs.Sight.{Rests, root_of, name_at};
 ghost use Rattle.hm_model.specs.Building.{Builds};
 ghost use Rattle.hm_list.specs.Pairs.{lookup, insert, delete};
 ghost use Rattle.hm_list.specs.Cells.{numbers_of, pairs_at, LeadsTo, HasList};
@@ -8,7 +8,7 @@ ghost use Rattle.hm_list.specs.Places.{SameOutside, SameOutsideBut, AreUnset};
 ghost use Rattle.hm_list.specs.Fronts.{PutsInFront, IsSought};
 
 use crate::key::{Key, Pair, Refused, is_key_less, is_key_same};
-use crate::places::clear_places;
+use crate::places::{clear_places, set_place};
 use crate::walk::take_first;
 use hm_model::{Caller, Full, NodeUsage, Root};
 use std::alloc::{AllocError, Global};
@@ -29,15 +29,6 @@ fn cell_numbers(pair: Pair) -> [u64; 10]
 {
     let [c, d, e, f, g, h] = pair.load;
     [pair.key.a, pair.key.b, c, d, e, f, g, h, 0, 0]
-}
-
-/// The place where it is set.
-fn set_place<U: NodeUsage, C: Caller<U>>(c: &C, at: Root) -> Option<Root>
-    requires { at.0 < 256 }
-    ensures name { name_of (C.sight c.now) result ≡ root_of (C.sight c.now) at }
-    ensures set { IfSome result (IsSet (C.sight c.now)) }
-{
-    if c.is_set(at) { Some(at) } else { None }
 }
 
 /// A new first cell.
@@ -183,7 +174,7 @@ pub fn put<U: NodeUsage, C: Caller<U>>(
     ensures full { result ≡ Err Refused.Full → (C.sight c.new).room ≡ 0 }
 {
     let answer = insert_pair(alloc, c, list, pair, top);
-    clear_places(c, top);
+    clear_places(c, top, Root(top.0 + 6));
     answer
 }
 
@@ -255,6 +246,6 @@ pub fn remove<U: NodeUsage, C: Caller<U>>(
     ensures full { result ≡ Err Refused.Full → (C.sight c.new).room ≡ 0 }
 {
     let answer = delete_key(alloc, c, list, key, top);
-    clear_places(c, top);
+    clear_places(c, top, Root(top.0 + 6));
     answer
 }

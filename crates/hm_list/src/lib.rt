@@ -15,4 +15,5 @@ mod walk;
 
 pub use change::{put, remove};
 pub use key::{Key, Pair, Refused};
+pub use places::{clear_places, set_place};
 pub use walk::{find, first};

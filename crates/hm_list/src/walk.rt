@@ -81,7 +81,7 @@ pub fn first<U: NodeUsage, C: Caller<U>>(c: &mut C, list: Root, top: Root) -> Op
     ensures first { result ≡ first_of (pairs_at (C.sight c.old) list) }
 {
     let found = read_first(c, list, top);
-    clear_places(c, top);
+    clear_places(c, top, Root(top.0 + 6));
     found
 }
 
@@ -129,6 +129,6 @@ pub fn find<U: NodeUsage, C: Caller<U>>(
     ensures found { result ≡ lookup key (pairs_at (C.sight c.old) list) }
 {
     let found = search(c, list, key, top);
-    clear_places(c, top);
+    clear_places(c, top, Root(top.0 + 6));
     found
 }

@@ -7,9 +7,9 @@ use Rattle.hm_model.specs.History.{store_after}
 use Rattle.hm_model.specs.Lawful.{AllCome}
 use Rattle.hm_model.specs.Sight.{Sight, Goes, Enters, present}
 use Rattle.hm_model.proofs.SightFacts.{goes_enters, present-goes}
-use Rattle.hm_book.specs.Spelled.{spelled}
-use Rattle.hm_book.proofs.SpelledRun.{spelled-append}
-use Rattle.hm_agreement.specs.declared.usage.BookUsage.{BookUsage}
+use Rattle.hm_agreement.specs.Spelled.{spelled}
+use Rattle.hm_agreement.proofs.SpelledRun.{spelled-append}
+use Rattle.hm_cellbook.specs.declared.usage.BookUsage.{BookUsage}
 use Rattle.hm_cellbook.specs.Fetched.{book_allowed, book_lawful}
 
 -- a caller goes on by these entries, and nobody makes another

@@ -4,9 +4,10 @@ use Rattle.hm_orders.specs.declared.order.Order.{Order}
 use Rattle.hm_orders.specs.declared.report.Done.{Done}
 use Rattle.hm_model.specs.Sight.{Sight}
 use Rattle.hm_book.specs.Run.{BookState, empty_state, state_after, state_after_all}
-use Rattle.hm_book.specs.Spelled.{order_in, spelled}
-use Rattle.hm_book.proofs.SpelledRun.{order_back, state_after_all-append}
-use Rattle.hm_agreement.specs.declared.usage.BookUsage.{BookUsage}
+use Rattle.hm_book.proofs.Runs.{state_after_all-append}
+use Rattle.hm_agreement.specs.Spelled.{order_in, spelled}
+use Rattle.hm_agreement.proofs.SpelledRun.{order_back}
+use Rattle.hm_cellbook.specs.declared.usage.BookUsage.{BookUsage}
 use Rattle.hm_cellbook.specs.declared.attempt.Attempt.{Attempt}
 use Rattle.hm_replay.specs.Replay.{no_limits}
 use Rattle.hm_replay.specs.Keeping.{IsKept, KeepsBook, MakesNext, SameBook, state_seen}

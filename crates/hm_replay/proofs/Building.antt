@@ -11,10 +11,10 @@ use Rattle.hm_model.specs.Sight.{Sight, present}
 use Rattle.hm_model.specs.Building.{IsBuilding, Builds}
 use Rattle.hm_model.proofs.EffectFacts.{contents_there}
 use Rattle.hm_model.proofs.HistoryFacts.{contents_stay}
-use Rattle.hm_book.specs.Cells.{board_name}
-use Rattle.hm_book.specs.Agreed.{IsLawfulBook}
-use Rattle.hm_book.specs.Spelled.{spelled}
-use Rattle.hm_agreement.specs.declared.usage.BookUsage.{BookUsage}
+use Rattle.hm_agreement.specs.Cells.{board_name}
+use Rattle.hm_agreement.specs.Agreed.{IsLawfulBook}
+use Rattle.hm_agreement.specs.Spelled.{spelled}
+use Rattle.hm_cellbook.specs.declared.usage.BookUsage.{BookUsage}
 use Rattle.hm_cellbook.specs.Fetched.{book_allowed, book_lawful}
 use Rattle.hm_replay.specs.Keeping.{KeepsBook, SameBook, first_number}
 use Rattle.hm_replay.proofs.Alone.{goes_alone, orders_kept}

@@ -6,9 +6,9 @@ use Rattle.hm_model.specs.History.{IsSizedStart}
 use Rattle.hm_model.specs.Sight.{Sight, IsFresh}
 use Rattle.hm_model.proofs.SightFacts.{has_history_fresh}
 use Rattle.hm_plain.specs.Sights.{IsPlain}
-use Rattle.hm_book.specs.Spelled.{IsBookStart}
-use Rattle.hm_book.proofs.BookStart.{common_is, opening_lawful}
-use Rattle.hm_agreement.specs.declared.usage.BookUsage.{BookUsage}
+use Rattle.hm_agreement.specs.Spelled.{IsBookStart}
+use Rattle.hm_agreement.proofs.BookStart.{common_is, opening_lawful}
+use Rattle.hm_cellbook.specs.declared.usage.BookUsage.{BookUsage}
 use Rattle.hm_cellbook.specs.Fetched.{book_allowed, book_lawful}
 use Rattle.hm_replay.specs.Replay.{no_limits}
 use Rattle.hm_replay.specs.Keeping.{KeepsBook}

@@ -4,11 +4,11 @@ use Rattle.hm_model.specs.declared.object.Contents.{Contents}
 use Rattle.hm_model.specs.declared.root.Snapshot.{Snapshot}
 use Rattle.hm_model.specs.Sight.{Sight, present}
 use Rattle.hm_book.specs.declared.limits.Limits.{Limits}
-use Rattle.hm_book.specs.Agreed.{HasBook}
 use Rattle.hm_book.specs.Run.{BookState, empty_state, state_after_all}
-use Rattle.hm_book.specs.Spelled.{HasState, spelled}
-use Rattle.hm_book.proofs.SpelledRun.{state_of_history}
-use Rattle.hm_agreement.specs.declared.usage.BookUsage.{BookUsage}
+use Rattle.hm_agreement.specs.Agreed.{HasBook}
+use Rattle.hm_agreement.specs.Spelled.{HasState, spelled}
+use Rattle.hm_agreement.proofs.SpelledRun.{state_of_history}
+use Rattle.hm_cellbook.specs.declared.usage.BookUsage.{BookUsage}
 use Rattle.hm_cellbook.specs.Fetched.{fetched_contents}
 use Rattle.hm_cellbook.specs.Attempted.{state_at}
 use Rattle.hm_cellbook.proofs.Fetching.{fetched_stamp}

@@ -15,12 +15,12 @@ use Rattle.hm_model.proofs.SightFacts.{has_history_goes}
 use Rattle.hm_plain.specs.Sights.{IsPlain}
 use Rattle.hm_book.specs.declared.book.Resting.{Resting}
 use Rattle.hm_book.specs.declared.limits.Limits.{Limits}
-use Rattle.hm_book.specs.Cells.{book_name}
-use Rattle.hm_book.specs.Agreed.{HasBook}
 use Rattle.hm_book.specs.Run.{BookState, done_of, next_effect, state_after}
-use Rattle.hm_book.specs.Spelled.{IsBookStart}
-use Rattle.hm_book.proofs.Agreeing.{book_laws}
-use Rattle.hm_agreement.specs.declared.usage.BookUsage.{BookUsage}
+use Rattle.hm_agreement.specs.Cells.{book_name}
+use Rattle.hm_agreement.specs.Agreed.{HasBook}
+use Rattle.hm_agreement.specs.Spelled.{IsBookStart}
+use Rattle.hm_agreement.proofs.Agreeing.{book_laws}
+use Rattle.hm_cellbook.specs.declared.usage.BookUsage.{BookUsage}
 use Rattle.hm_cellbook.specs.Fetched.{WasFetched, book_allowed, book_lawful, fetched_contents}
 use Rattle.hm_cellbook.specs.Attempted.{state_at, Applies, TellsOrder}
 use Rattle.hm_cellbook.specs.Cost.{cost}

@@ -14,10 +14,10 @@ use Rattle.hm_model.specs.Sight.{Places, Sight, names_of, present, root_of}
 use Rattle.hm_model.specs.Calls.{FindsChanged, Stores, StoresAll}
 use Rattle.hm_model.proofs.StoreFacts.{contents_of-changed_other}
 use Rattle.hm_model.proofs.SightFacts.{well_made_present}
-use Rattle.hm_book.specs.Cells.{board_name, book_name}
-use Rattle.hm_book.specs.Spelled.{order_in, spelled}
-use Rattle.hm_book.proofs.Agreeing.{board_other}
-use Rattle.hm_agreement.specs.declared.usage.BookUsage.{BookUsage}
+use Rattle.hm_agreement.specs.Cells.{board_name, book_name}
+use Rattle.hm_agreement.specs.Spelled.{order_in, spelled}
+use Rattle.hm_agreement.proofs.Agreeing.{board_other}
+use Rattle.hm_cellbook.specs.declared.usage.BookUsage.{BookUsage}
 use Rattle.hm_cellbook.specs.Fetched.{book_allowed, book_lawful}
 use Rattle.hm_replay.specs.Keeping.{HasStamp, KeepsBook, first_number, told_in}
 use Rattle.hm_replay.proofs.Alone.{enters_alone, orders_kept}

@@ -6,10 +6,10 @@ use Rattle.hm_model.specs.declared.root.Snapshot.{Snapshot}
 use Rattle.hm_model.specs.Store.{PlainStore, contents_of}
 use Rattle.hm_model.specs.Sight.{Sight, AreSet, HasHistory, name_at, present}
 use Rattle.hm_model.specs.Calls.{MayStoreIf}
-use Rattle.hm_book.specs.Cells.{HoldsOrder, board_name, book_name}
 use Rattle.hm_book.specs.Run.{BookState, done_of, empty_state, state_after, state_after_all}
-use Rattle.hm_book.specs.Spelled.{IsBookStart, spelled}
-use Rattle.hm_agreement.specs.declared.usage.BookUsage.{BookUsage}
+use Rattle.hm_agreement.specs.Cells.{HoldsOrder, board_name, book_name}
+use Rattle.hm_agreement.specs.Spelled.{IsBookStart, spelled}
+use Rattle.hm_cellbook.specs.declared.usage.BookUsage.{BookUsage}
 use Rattle.hm_cellbook.specs.declared.attempt.Attempt.{Attempt}
 use Rattle.hm_cellbook.specs.Fetched.{WasFetched, book_allowed, book_lawful, fetched_contents}
 use Rattle.hm_replay.specs.Replay.{no_limits}

@@ -1,7 +1,7 @@
 use Rattle.std.proofs.Common.{arith, ◌≡◌, ◌+◌, ◌∙◌, sym, ap, subst, refl, length, List, ℕ}
 use Rattle.std.specs.Prelude.{slice_index}
 use Rattle.hm_orders.specs.declared.report.Fill.{Fill}
-use Rattle.hm_agreement.specs.declared.usage.BookUsage.{BookUsage}
+use Rattle.hm_cellbook.specs.declared.usage.BookUsage.{BookUsage}
 use Rattle.hm_book.specs.Effect.{trade_effect}
 use Rattle.hm_cellbook.specs.Working.{HasEffect}
 use Rattle.hm_cellbook.proofs.Fetching.{fetched_book}

@@ -1,8 +1,8 @@
 -- The heap starts with an empty book.
 use Rattle.std.proofs.Common.{refl, ap, sym, subst}
-use Rattle.hm_book.specs.Spelled.{IsBookStart}
-use Rattle.hm_book.proofs.BookStart.{opening_lawful}
-use Rattle.hm_agreement.specs.declared.usage.BookUsage.{BookUsage}
+use Rattle.hm_agreement.specs.Spelled.{IsBookStart}
+use Rattle.hm_agreement.proofs.BookStart.{opening_lawful}
+use Rattle.hm_cellbook.specs.declared.usage.BookUsage.{BookUsage}
 use Rattle.hm_replay.proofs.Opening.{keeps_fresh}
 use Rattle.hm_replay.proofs.heap.open.Goals as goal
 

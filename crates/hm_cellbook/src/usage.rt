@@ -1,4 +1,4 @@
-//! What the callers of a heap with a book in cells agree to.
+//! The usage of a heap with a book in cells.
 ghost use Rattle.std.specs.Prelude.{◌≡◌};
 
 use hm_book::Limits;
@@ -48,8 +48,8 @@ pub struct BookUsage {
 }
 
 impl Usage for BookUsage {
-    ghost use Rattle.hm_book.specs.Agreed.{IsLawfulBook, IsAllowedBook};
-    ghost use Rattle.hm_book.proofs.Agreeing.{book_laws};
+    ghost use Rattle.hm_agreement.specs.Agreed.{IsLawfulBook, IsAllowedBook};
+    ghost use Rattle.hm_agreement.proofs.Agreeing.{book_laws};
 
     ghost lawful = { λ _. IsLawfulBook };
 
@@ -59,8 +59,8 @@ impl Usage for BookUsage {
 }
 
 impl NodeUsage for BookUsage {
-    ghost use Rattle.hm_book.specs.Cells.{IsNode};
-    ghost use Rattle.hm_book.proofs.Agreeing.{book_node_laws};
+    ghost use Rattle.hm_agreement.specs.Cells.{IsNode};
+    ghost use Rattle.hm_agreement.proofs.Agreeing.{book_node_laws};
 
     ghost node = { λ _. IsNode };
 

@@ -6,7 +6,6 @@ use Rattle.hm_orders.specs.declared.order.Kind.{Kind}
 use Rattle.hm_orders.specs.declared.order.Kind.TheVariants.{Limit, Immediate, Market, Cancel}
 use Rattle.hm_orders.specs.declared.order.Side.{Side}
 use Rattle.hm_orders.specs.declared.order.Side.TheVariants.{Buy, Sell, Neither}
-use Rattle.hm_orders.specs.declared.report.Done.{Done}
 use Rattle.hm_model.specs.declared.object.Name.{Name}
 use Rattle.hm_model.specs.declared.object.Contents.{Contents}
 use Rattle.hm_model.specs.declared.object.Start.{Start}
@@ -22,14 +21,15 @@ use Rattle.hm_model.proofs.StoreFacts.{contents_of-push, contents_of-changed_oth
 use Rattle.hm_model.proofs.HistoryFacts.{store_after-append}
 use Rattle.hm_book.specs.declared.book.Resting.{Resting}
 use Rattle.hm_book.specs.declared.limits.Limits.{Limits}
-use Rattle.hm_book.specs.Cells.{board_name, book_name, IsNode, kind_number, side_number, HoldsOrder}
 use Rattle.hm_book.specs.Effect.{Effect}
-use Rattle.hm_book.specs.Run.{BookState, done_of, dones_of, empty_state, next_effect, state_after, state_after_all}
-use Rattle.hm_book.specs.Agreed.{HasBook, IsLawfulBook, IsAllowedBook}
-use Rattle.hm_book.specs.Spelled.{kind_told, side_told, order_in, spelled_by, spelled, IsBookStart, HasState}
-use Rattle.hm_book.proofs.Agreeing.{board_other, has_kept, create_keeps, board_keeps, book_keeps, replaced_there, applied_root, applied_has}
-use Rattle.hm_book.proofs.OneBook.{one_book}
-use Rattle.hm_book.proofs.BookStart.{spelled_opening, opening_empty}
+use Rattle.hm_book.specs.Run.{BookState, empty_state, next_effect, state_after, state_after_all}
+use Rattle.hm_book.proofs.Runs.{state_after_all-append}
+use Rattle.hm_agreement.specs.Cells.{board_name, book_name, IsNode, kind_number, side_number, HoldsOrder}
+use Rattle.hm_agreement.specs.Agreed.{HasBook, IsLawfulBook, IsAllowedBook}
+use Rattle.hm_agreement.specs.Spelled.{kind_told, side_told, order_in, spelled_by, spelled, IsBookStart, HasState}
+use Rattle.hm_agreement.proofs.Agreeing.{board_other, has_kept, create_keeps, board_keeps, book_keeps, replaced_there, applied_root, applied_has}
+use Rattle.hm_agreement.proofs.OneBook.{one_book}
+use Rattle.hm_agreement.proofs.BookStart.{spelled_opening, opening_empty}
 
 -- the number of a kind tells that kind
 kind_back : (kind : Kind) → kind_told (kind_number kind) ≡ kind
@@ -62,22 +62,6 @@ order_back numbers order h =
 -- what two lists of entries spell
 pub spelled-append : (xs ys : List Entry) → spelled (xs ++ ys) ≡ spelled xs ++ spelled ys
 spelled-append xs ys = filter_map-append spelled_by xs ys
-
--- the state after two lists of orders
-pub state_after_all-append : (limits : Limits) (state : BookState) (xs ys : List Order)
-    → state_after_all limits state (xs ++ ys) ≡ state_after_all limits (state_after_all limits state xs) ys
-state_after_all-append limits state [] ys = refl
-state_after_all-append limits state (x ∷ xs) ys =
-    state_after_all-append limits (state_after limits state x) xs ys
-
--- what becomes of two lists of orders
-pub dones_of-append : (limits : Limits) (state : BookState) (xs ys : List Order)
-    → dones_of limits state (xs ++ ys)
-    ≡ dones_of limits state xs ++ dones_of limits (state_after_all limits state xs) ys
-dones_of-append limits state [] ys = refl
-dones_of-append limits state (x ∷ xs) ys =
-    ap (λ (dones : List Done). done_of limits state x ∷ dones)
-    (dones_of-append limits (state_after limits state x) xs ys)
 
 -- a state stays where nodes are kept, and the common object
 state_kept : (s t : PlainStore) (state : BookState) → KeepsNodes IsNode s t

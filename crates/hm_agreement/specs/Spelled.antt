@@ -13,8 +13,8 @@ use Rattle.hm_model.specs.declared.entry.Entry.TheVariants.{Create, Fetch, Store
 use Rattle.hm_model.specs.Store.{Numbers, PlainStore, contents_of, is_same}
 use Rattle.hm_book.specs.declared.book.Resting.{Resting}
 use Rattle.hm_book.specs.Run.{BookState}
-use Rattle.hm_book.specs.Cells.{book_name}
-use Rattle.hm_book.specs.Agreed.{HasBook}
+use Rattle.hm_agreement.specs.Cells.{book_name}
+use Rattle.hm_agreement.specs.Agreed.{HasBook}
 
 -- a number tells a kind, and one that is no kind's tells a cancel
 abbrev pub kind_told : ℕ → Kind

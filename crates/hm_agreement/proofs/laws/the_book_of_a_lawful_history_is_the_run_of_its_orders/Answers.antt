@@ -1,7 +1,7 @@
 -- The book of a lawful history is the run of its orders.
-use Rattle.hm_book.proofs.BookStart.{opening_lawful}
-use Rattle.hm_book.proofs.SpelledRun.{state_of_history}
-use Rattle.hm_book.proofs.laws.the_book_of_a_lawful_history_is_the_run_of_its_orders.Goals as goal
+use Rattle.hm_agreement.proofs.BookStart.{opening_lawful}
+use Rattle.hm_agreement.proofs.SpelledRun.{state_of_history}
+use Rattle.hm_agreement.proofs.laws.the_book_of_a_lawful_history_is_the_run_of_its_orders.Goals as goal
 
 pub returns-clause-opening : goal.returns-clause-opening
 returns-clause-opening c = opening_lawful

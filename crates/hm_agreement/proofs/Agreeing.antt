@@ -19,15 +19,14 @@ use Rattle.hm_model.proofs.EffectFacts.{there_after}
 use Rattle.hm_list.proofs.ListFacts.{list_kept}
 use Rattle.hm_book.specs.declared.book.Resting.{Resting}
 use Rattle.hm_book.specs.declared.limits.Limits.{Limits}
-use Rattle.hm_book.specs.Cells.{board_name, book_name, IsNode, bids_of, asks_of, ids_of, ShowsBook}
-use Rattle.hm_book.specs.Cells.{IsInRange}
 use Rattle.hm_book.specs.Effect.{Effect, has_name}
 use Rattle.hm_book.specs.Run.{BookState}
 use Rattle.hm_book.specs.Sound.{IsSound}
-use Rattle.hm_book.specs.Agreed.{IsUncrossed, HasBook, IsLawfulBook, AppliesOrder, IsAllowedBook}
 use Rattle.hm_book.proofs.Apart.{names_after}
-use Rattle.hm_book.proofs.Uncrossed.{uncrossed_after}
 use Rattle.hm_book.proofs.SoundSteps.{IsSound-state_after}
+use Rattle.hm_agreement.specs.Cells.{board_name, book_name, IsNode, IsInRange, bids_of, asks_of, ids_of, ShowsBook}
+use Rattle.hm_agreement.specs.Agreed.{IsUncrossed, HasBook, IsLawfulBook, AppliesOrder, IsAllowedBook}
+use Rattle.hm_agreement.proofs.Uncrossed.{uncrossed_after}
 
 -- the board is not the common object
 pub board_other : board_name ≢ book_name

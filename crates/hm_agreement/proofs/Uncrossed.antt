@@ -13,8 +13,6 @@ use Rattle.hm_book.specs.declared.limits.Limits.{Limits}
 use Rattle.hm_book.specs.Trading.{opposes, goes_before, reaches, crosses, crosses_as, if_crossed, best_opposite, next_maker, fill_with, after_fill, Traded, no_trade, trades}
 use Rattle.hm_book.specs.Best.{IsBest, NoneOpposes}
 use Rattle.hm_book.specs.Effect.{keeps_rest, rest_of, effect_of}
-use Rattle.hm_book.specs.Cells.{is_buying, is_selling}
-use Rattle.hm_book.specs.Agreed.{DoNotCross, IsUncrossed}
 use Rattle.hm_book.proofs.Best.{best_opposite_is}
 use Rattle.hm_book.proofs.Members.{Contains-cons, Contains-first}
 use Rattle.hm_book.proofs.Rising.{Rises, Rises-from_pairs, Rises-after_fill}
@@ -22,6 +20,8 @@ use Rattle.hm_book.proofs.Taking.{length-after_fill_all}
 use Rattle.hm_book.proofs.TradesSound.{next_maker-in_book}
 use Rattle.hm_book.proofs.Along.{trades_from, trades_none}
 use Rattle.hm_book.proofs.Apart.{apart_effect, Apart-from_pairs, pairs_from_Apart}
+use Rattle.hm_agreement.specs.Cells.{is_buying, is_selling}
+use Rattle.hm_agreement.specs.Agreed.{DoNotCross, IsUncrossed}
 
 -- a price that is no better than one that is not reached is not reached
 reach_less : (side : Side) (price : ℕ) (r best : Resting) → goes_before side r best ≡ false

@@ -14,10 +14,10 @@ use Rattle.hm_list.specs.declared.key.Pair.{Pair}
 use Rattle.hm_list.specs.Pairs.{is_less, is_same, insert}
 use Rattle.hm_list.proofs.Finite.{one_list}
 use Rattle.hm_book.specs.declared.book.Resting.{Resting}
-use Rattle.hm_book.specs.Cells.{IsNode, IsInRange, is_buying, is_selling, load_of, bid_of, ask_of, in_order, bids_of, asks_of}
-use Rattle.hm_book.specs.Agreed.{HasBook}
 use Rattle.hm_book.proofs.Members.{Contains-nil, Contains-first, Contains-cons, Contains-cons_cases, at_member}
 use Rattle.hm_book.proofs.Rising.{Rises, Rises-from_pairs}
+use Rattle.hm_agreement.specs.Cells.{IsNode, IsInRange, is_buying, is_selling, load_of, bid_of, ask_of, in_order, bids_of, asks_of}
+use Rattle.hm_agreement.specs.Agreed.{HasBook}
 
 -- a pair that is inserted is there
 insert_has : (q : Pair) (ps : List Pair) → Contains (insert q ps) q
@@ -73,6 +73,19 @@ insert_cases q (p ∷ ps) x h = go (is_less p.key q.key) (is_same p.key q.key) h
       | inr behind ↦ Contains-cons q (p ∷ ps) x (Contains-cons p ps x behind)
     ]
     go false false h rest = h
+
+-- two orders are equal where their sides, root numbers and loads are
+same_resting : (r t : Resting) → r.side ≡ t.side → r.root ≡ t.root
+    → load_of r ≡ load_of t → r ≡ t
+same_resting r t side root load = λ i. record {
+  side = side i;
+  price = slice_index (load i) 0;
+  root = root i;
+  file = slice_index (load i) 1;
+  row = slice_index (load i) 2;
+  id = slice_index (load i) 3;
+  quantity = slice_index (load i) 4;
+}
 
 -- an order of the book has a pair in a list
 pub record HasPair (pair : Resting → Pair) (keep : Resting → Bool) (book : List Resting) (p : Pair)
@@ -134,65 +147,48 @@ module _ (pair : Resting → Pair) (rooted : (r : Resting) → (pair r).key.b �
           ]
       go false e h rest = further (rest h)
 
--- a side that is buying is Buy
-buys : (side : Side) → is_buying side ≡ true → side ≡ Buy
-buys Buy h = refl
-buys Sell h = absurd (false≢true h)
-buys Neither h = absurd (false≢true h)
+  module _ (loaded : (r : Resting) → (pair r).load ≡ load_of r)
+      (alike : (r t : Resting) → keep r ≡ true → keep t ≡ true → r.side ≡ t.side) where
+    -- where they are all on one side, they are in each book with the same pairs
+    pub one_side_moves : (a b : List Resting) → Rises a → pairs a ≡ pairs b → (r : Resting) → Contains a r
+        → keep r ≡ true → Contains b r
+    one_side_moves a b rises same r there kept =
+        let here : Contains (pairs a) (pair r) = pair_there a r rises there kept in
+        let w = pair_back b (pair r) (subst (λ (ps : List Pair). Contains ps (pair r)) same here) in
+        subst (Contains b)
+        (same_resting w.resting r (alike w.resting r w.kept kept)
+        (sym (rooted w.resting) ∙ (ap (λ (p : Pair). p.key.b) w.has ∙ rooted r))
+        (sym (loaded w.resting) ∙ (ap (λ (p : Pair). p.load) w.has ∙ loaded r))) w.in_book
 
--- and one that is selling is Sell
-sells : (side : Side) → is_selling side ≡ true → side ≡ Sell
-sells Buy h = absurd (false≢true h)
-sells Sell h = refl
-sells Neither h = absurd (false≢true h)
+-- two sides that are buying are one
+both_buy : (x y : Side) → is_buying x ≡ true → is_buying y ≡ true → x ≡ y
+both_buy Buy Buy h k = refl
+both_buy Buy Sell h k = absurd (false≢true k)
+both_buy Buy Neither h k = absurd (false≢true k)
+both_buy Sell y h k = absurd (false≢true h)
+both_buy Neither y h k = absurd (false≢true h)
 
--- two orders are equal where their sides, root numbers and loads are
-same_resting : (r t : Resting) → r.side ≡ t.side → r.root ≡ t.root
-    → load_of r ≡ load_of t → r ≡ t
-same_resting r t side root load = λ i. record {
-  side = side i;
-  price = slice_index (load i) 0;
-  root = root i;
-  file = slice_index (load i) 1;
-  row = slice_index (load i) 2;
-  id = slice_index (load i) 3;
-  quantity = slice_index (load i) 4;
-}
+-- so are two that are selling
+both_sell : (x y : Side) → is_selling x ≡ true → is_selling y ≡ true → x ≡ y
+both_sell Sell Sell h k = refl
+both_sell Sell Buy h k = absurd (false≢true k)
+both_sell Sell Neither h k = absurd (false≢true k)
+both_sell Buy y h k = absurd (false≢true h)
+both_sell Neither y h k = absurd (false≢true h)
 
-module _ (a b : List Resting) (rises : Rises a) where
-  -- the buys of a book are in each book with the same bids
-  buy_moves : bids_of a ≡ bids_of b → (r : Resting) → Contains a r → r.side ≡ Buy → Contains b r
-  unfolding pair_back
-  buy_moves same r there side =
-      let here : Contains (bids_of a) (bid_of r) =
-      pair_there bid_of (λ r. refl) (λ r. is_buying r.side) a r rises there (ap is_buying side) in
-      let w = pair_back bid_of (λ r. refl) (λ r. is_buying r.side) b (bid_of r)
-      (subst (λ (ps : List Pair). Contains ps (bid_of r)) same here) in
-      subst (Contains b)
-      (same_resting w.resting r (buys w.resting.side w.kept ∙ sym side) (ap (λ (p : Pair). p.key.b) w.has)
-      (ap (λ (p : Pair). p.load) w.has)) w.in_book
-
-  -- so are its sells, with the same asks
-  sell_moves : asks_of a ≡ asks_of b → (r : Resting) → Contains a r → r.side ≡ Sell → Contains b r
-  unfolding pair_back
-  sell_moves same r there side =
-      let here : Contains (asks_of a) (ask_of r) =
-      pair_there ask_of (λ r. refl) (λ r. is_selling r.side) a r rises there (ap is_selling side) in
-      let w = pair_back ask_of (λ r. refl) (λ r. is_selling r.side) b (ask_of r)
-      (subst (λ (ps : List Pair). Contains ps (ask_of r)) same here) in
-      subst (Contains b)
-      (same_resting w.resting r (sells w.resting.side w.kept ∙ sym side) (ap (λ (p : Pair). p.key.b) w.has)
-      (ap (λ (p : Pair). p.load) w.has)) w.in_book
-
-  -- and all its orders, with both
-  all_move : All IsInRange a → bids_of a ≡ bids_of b → asks_of a ≡ asks_of b → (r : Resting) → Contains a r
-      → Contains b r
-  all_move ranges bids asks r there = go r.side refl (All-contains IsInRange a r ranges there).side
-    where
-      go : (side : Side) → r.side ≡ side → IsTradingSide side → Contains b r
-      go Buy is trades = buy_moves bids r there is
-      go Sell is trades = sell_moves asks r there is
-      go Neither is trades = absurd trades
+-- the orders of a book are in each book with the same bids and asks
+all_move : (a b : List Resting) → Rises a → All IsInRange a → bids_of a ≡ bids_of b
+    → asks_of a ≡ asks_of b → (r : Resting) → Contains a r → Contains b r
+unfolding one_side_moves
+all_move a b rises ranges bids asks r there =
+    go r.side refl (All-contains IsInRange a r ranges there).side
+  where
+    go : (side : Side) → r.side ≡ side → IsTradingSide side → Contains b r
+    go Buy is trades = one_side_moves bid_of (λ r. refl) (λ r. is_buying r.side) (λ r. refl)
+        (λ r t. both_buy r.side t.side) a b rises bids r there (ap is_buying is)
+    go Sell is trades = one_side_moves ask_of (λ r. refl) (λ r. is_selling r.side) (λ r. refl)
+        (λ r t. both_sell r.side t.side) a b rises asks r there (ap is_selling is)
+    go Neither is trades = absurd trades
 
 -- two books in which root numbers rise are equal where they have the same orders
 pub same_orders : (a b : List Resting) → Rises a → Rises b → ((r : Resting) → Contains a r → Contains b r)

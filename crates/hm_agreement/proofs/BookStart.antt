@@ -8,12 +8,12 @@ use Rattle.hm_model.specs.Store.{Numbers, PlainStore, contents_of}
 use Rattle.hm_model.specs.Effect.{new_contents}
 use Rattle.hm_model.specs.History.{store_of, common_name, opening_of}
 use Rattle.hm_book.specs.declared.book.Resting.{Resting}
-use Rattle.hm_book.specs.Cells.{board_name, book_name, IsInRange}
 use Rattle.hm_book.specs.Effect.{has_name}
 use Rattle.hm_book.specs.Run.{empty_state}
-use Rattle.hm_book.specs.Agreed.{DoNotCross, HasBook, IsLawfulBook}
-use Rattle.hm_book.specs.Spelled.{spelled, IsBookStart, HasState}
-use Rattle.hm_book.proofs.OneBook.{one_book}
+use Rattle.hm_agreement.specs.Cells.{board_name, book_name, IsInRange}
+use Rattle.hm_agreement.specs.Agreed.{DoNotCross, HasBook, IsLawfulBook}
+use Rattle.hm_agreement.specs.Spelled.{spelled, IsBookStart, HasState}
+use Rattle.hm_agreement.proofs.OneBook.{one_book}
 
 -- all numbers of an object are 0
 abbrev zeros : Numbers

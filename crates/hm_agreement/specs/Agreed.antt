@@ -12,7 +12,7 @@ use Rattle.hm_model.specs.Sight.{name_at}
 use Rattle.hm_book.specs.declared.book.Resting.{Resting}
 use Rattle.hm_book.specs.declared.limits.Limits.{Limits}
 use Rattle.hm_book.specs.Effect.{Effect, has_name, effect_of}
-use Rattle.hm_book.specs.Cells.{board_name, book_name, HoldsOrder, is_buying, is_selling, ShowsBook}
+use Rattle.hm_agreement.specs.Cells.{board_name, book_name, HoldsOrder, is_buying, is_selling, ShowsBook}
 
 -- a buy does not cross a sell where its price is less
 abbrev pub DoNotCross : Resting → Resting → Type 0
