@@ -21,7 +21,7 @@ invariant_of-result g c =
     let hand : c.set.new.self.hand ≡ [] =
     ap (λ (x : Gripped g.row.U.Denot). x.hand) c.set.ensures
     ∙ ap (λ (x : Gripped g.row.U.Denot). x.hand) c.in_ok-grip.ensures in
-    seated_fresh g.U.Usage.lawful g.U.Usage.allowed site c.args.seat.table_id c.args.number
+    seated_fresh g.U.Usage.lawful g.U.Usage.allowed site c.args.seat.table_id c.args.number w.1.sized
     (sure_first g.U.Usage.lawful g.U.Usage.allowed site w.0 w.1 w.1.sized c.requires.objects c.requires.lawful
     c.args.number c.requires.number) c.args.seat c.set.new.self c.requires.seat refl roots hand
     c.args.used c.requires.used
@@ -40,6 +40,6 @@ returns g c =
     let hand : c.set.new.self.hand ≡ [] =
     ap (λ (x : Gripped g.row.U.Denot). x.hand) c.set.ensures
     ∙ ap (λ (x : Gripped g.row.U.Denot). x.hand) c.in_ok-grip.ensures in
-    fresh_is g.U.Usage.lawful g.U.Usage.allowed site c.args.seat.table_id c.args.number
+    fresh_is g.U.Usage.lawful g.U.Usage.allowed site c.args.seat.table_id c.args.number w.1.sized
     (sure_first g.U.Usage.lawful g.U.Usage.allowed site w.0 w.1 w.1.sized c.requires.objects c.requires.lawful
     c.args.number c.requires.number) c.args.seat c.set.new.self c.requires.seat refl roots hand
