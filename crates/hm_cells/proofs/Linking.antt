@@ -32,6 +32,8 @@ use Rattle.hm_cells.specs.Facts.{Facts, Fits, Made, IsLookable, known_at, sight_
 use Rattle.hm_cells.specs.Calls.{IsWholeCopy, MayChange, MayStore, field_of, linked, move_by, stored, taken, turned}
 use Rattle.hm_cells.specs.Shows.{Exchanges, IsReady, IsSeated, Learns, facts_of, some_move}
 use Rattle.hm_cells.proofs.Fields.{small_link}
+use Rattle.hm_cells.proofs.Moved.{moved}
+use Rattle.hm_cells.specs.Calls.{Takes}
 use Rattle.hm_cells.proofs.Ready.{known_look, ready}
 use Rattle.hm_cells.proofs.Storing.{next_is}
 use Rattle.hm_cells.proofs.Wanting.{HasLengths, refs_known, root_known}
@@ -152,37 +154,55 @@ module _ {U : Type 0} where
             turns = turns_link;
           }
 
-      module _ (seat' : Seat (Unit {0}) (Knowledge U)) (x : ℕ)
+      module _ (seat' : Seat (Unit {0}) (Knowledge U)) (grip' : Gripped U)
+          (table : seat'.table_id ≡ seat.table_id) (slots : seat'.me.1 ≡ seat.me.1) (x : ℕ)
           (learns : Learns lawful allowed (move_by s act) 0 seat.me.0 x seat'.me.0) where
         abbrev found : Option Known
         found = (learns s.part seated.own).found
 
-        pub link_store_small : x ≤ 2 ^ 32
-        link_store_small = small_link s.part.site.shape (done_seen s.part) x k found
+        small : x ≤ 2 ^ 32
+        small = small_link s.part.site.shape (done_seen s.part) x k found
             (learns s.part seated.own).what
             (some_more (Contains (part_after s.part (move_by s act) x found).hands.held)
             (IsFit s.part.site.shape (done_seen s.part)) (λ n h. (learns s.part seated.own).sure.fit n (inl h))
             found (learns s.part seated.own).holds)
 
-        -- where 0 was found, the next version is taken into the hand
-        pub made_hand : x ≡ 0 → grip.hand ++ option_to_list (Some next) ≡ grip.hand ++ taken act x found
-        made_hand e = ap (λ (l : List Version). grip.hand ++ l)
+        -- the pass is seated, and took the exchange, which found this word
+        abbrev Exchanged : ℕ → ℕ → Type 0
+        Exchanged word used' =
+            IsSeated lawful allowed seat' (facts_of seat' grip') shape number to used'
+            × Takes lawful allowed o (link_by o v want) word (facts_of seat' grip')
+
+        exchanged : (named : Option Version) → grip' ≡ record grip { hand = grip.hand ++ option_to_list named }
+            → option_to_list named ≡ taken act x found
+            → (used' : ℕ) → used' ≡ used + count_of (publishes act x) → (word : ℕ) → word ≡ x
+            → Exchanged word used'
+        exchanged named took hand used' more word e =
+            subst (λ (w : ℕ). Exchanged w used') (sym e)
+            (moved lawful allowed seat seat' grip grip' shape number to used seated o is
+            (λ f. link_by f v want) x learns table slots named took hand used' more)
+
+        -- where 0 was found, the next version is published, and taken into the hand
+        pub made_now : (x ≤ 2 ^ 32 → 0 ≡ x)
+            → grip' ≡ record grip { hand = grip.hand ++ option_to_list (Some next) } → Exchanged 0 (used + 1)
+        made_now nought took =
+            let e : x ≡ 0 = sym (nought small) in
+            exchanged (Some next) took
             (ap (λ (w : Version). w ∷ []) (sym fresh_is)
             ∙ sym (hand_zero k (linked s k want) (Some (stored s k want)) x found
             (learns s.part seated.own).what e))
+            (used + 1)
+            (ap (λ (o : Option Known). used + count_of o)
+            (sym (link_published k (linked s k want) (Some (stored s k want)) x e))) 0 (sym e)
 
-        -- where a version was found, that is
-        pub later_hand : (later : Version) → x ≡ naming_word (Some later)
-            → grip.hand ++ option_to_list (Some later) ≡ grip.hand ++ taken act x found
-        later_hand later e = ap (λ (l : List Version). grip.hand ++ l)
+        -- where a version was found, that is taken into the hand
+        pub later_now : (later : Version) → (x ≤ 2 ^ 32 → naming_word (Some later) ≡ x)
+            → grip' ≡ record grip { hand = grip.hand ++ option_to_list (Some later) }
+            → Exchanged (naming_word (Some later)) used
+        later_now later names took =
+            let e : x ≡ naming_word (Some later) = sym (names small) in
+            let c = ap count_of (link_quiet k (linked s k want) (Some (stored s k want)) x later.0 e) in
+            exchanged (Some later) took
             (sym (hand_later k (linked s k want) (Some (stored s k want)) x found later
             (learns s.part seated.own).what e))
-
-        pub made_used : x ≡ 0 → used + 1 ≡ used + count_of (publishes act x)
-        made_used e = ap (λ (o : Option Known). used + count_of o)
-            (sym (link_published k (linked s k want) (Some (stored s k want)) x e))
-
-        pub later_used : (later : Version) → x ≡ naming_word (Some later)
-            → used ≡ used + count_of (publishes act x)
-        later_used later e =
-            let c = ap count_of (link_quiet k (linked s k want) (Some (stored s k want)) x later.0 e) in omega arith
+            used (omega arith) (naming_word (Some later)) (sym e)

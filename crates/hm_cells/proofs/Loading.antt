@@ -24,6 +24,8 @@ use Rattle.hm_cells.specs.Facts.{Facts, Fits, Made, IsLookable, known_at}
 use Rattle.hm_cells.specs.Calls.{move_by, taken, version_in}
 use Rattle.hm_cells.specs.Shows.{IsReady, IsSeated, Learns, Loads, facts_of, some_move}
 use Rattle.hm_cells.proofs.Fields.{take_field, hold_field, place_field, hand_field, hand_link, small_link, named_in}
+use Rattle.hm_cells.proofs.Moved.{moved}
+use Rattle.hm_cells.specs.Calls.{Takes}
 use Rattle.hm_cells.proofs.Ready.{known_look, look_fit, look_version, ready}
 use Rattle.hm_moves.proofs.Held.{some_more}
 
@@ -93,31 +95,47 @@ module _ {U : Type 0} (lawful : U → PlainStore → Type 0) (allowed : U → Pl
         (λ n h. (learns s.part seated.own).sure.fit n (Rattle.std.proofs.Common.inl h)) found
         (learns s.part seated.own).holds
 
-  module _ (seat' : Seat (Unit {0}) (Knowledge U)) (v : Version) (i x : ℕ) (some : 0 < i) (low : i < 16)
-      (learns : Learns lawful allowed (move_by s (Looks (field_look (known_at s v) i))) 0 seat.me.0 x
-      seat'.me.0) where
-    pub field_hand : (named : Option Version) → (2 ≤ i → i < 6 → x ≤ 2 ^ 32 → named ≡ version_in x)
-        → ((i < 2) ⊎ (6 ≤ i) → named ≡ None)
-        → grip.hand ++ option_to_list named
-        ≡ grip.hand ++ taken (Looks (field_look (known_at s v) i)) x (learns s.part seated.own).found
-    field_hand named in_range none = sym (ap (λ (l : _). grip.hand ++ l)
-        (hand_field s.part.site.shape (done_seen s.part) (known_at s v) i x (learns s.part seated.own).found
-        named some low
-        (learns s.part seated.own).what (found_fit seat' (field_look (known_at s v) i) x learns) in_range
-        none))
+  module _ (seat' : Seat (Unit {0}) (Knowledge U)) (grip' : Gripped U) (table : seat'.table_id ≡ seat.table_id)
+      (slots : seat'.me.1 ≡ seat.me.1) (v : Version) (x : ℕ) (named : Option Version)
+      (took : grip' ≡ record grip { hand = grip.hand ++ option_to_list named }) where
+    -- a load of a field took what a reference names
+    pub field_now : (i : ℕ) → 0 < i → i < 16
+        → (learns : Learns lawful allowed (move_by s (Looks (field_look (known_at s v) i))) 0 seat.me.0 x
+        seat'.me.0)
+        → (2 ≤ i → i < 6 → x ≤ 2 ^ 32 → named ≡ version_in x) → ((i < 2) ⊎ (6 ≤ i) → named ≡ None)
+        → IsSeated lawful allowed seat' (facts_of seat' grip') shape number to used
+        × Takes lawful allowed o (Looks (field_look (known_at o v) i)) x (facts_of seat' grip')
+    field_now i some low learns in_range none =
+        moved lawful allowed seat seat' grip grip' shape number to used seated o is
+        (λ f. Looks (field_look (known_at f v) i)) x learns table slots named took
+        (sym (hand_field s.part.site.shape (done_seen s.part) (known_at s v) i x
+        (learns s.part seated.own).found named some low (learns s.part seated.own).what
+        (found_fit seat' (field_look (known_at s v) i) x learns) in_range none))
+        used (omega arith)
 
-  module _ (seat' : Seat (Unit {0}) (Knowledge U)) (v : Version) (want : Option Entry) (x : ℕ)
-      (learns : Learns lawful allowed (move_by s (Looks (LoadLink (known_at s v) want))) 0 seat.me.0 x
-      seat'.me.0) where
-    pub link_small : x ≤ 2 ^ 32
-    link_small = small_link s.part.site.shape (done_seen s.part) x (known_at s v)
-        (learns s.part seated.own).found
-        (learns s.part seated.own).what (found_fit seat' (LoadLink (known_at s v) want) x learns)
+    module _ (want : Facts U → Option Entry)
+        (learns : Learns lawful allowed (move_by s (Looks (LoadLink (known_at s v) (want s)))) 0 seat.me.0 x
+        seat'.me.0) where
+      -- the word of a link is small
+      pub link_small : x ≤ 2 ^ 32
+      link_small = small_link s.part.site.shape (done_seen s.part) x (known_at s v)
+          (learns s.part seated.own).found
+          (learns s.part seated.own).what (found_fit seat' (LoadLink (known_at s v) (want s)) x learns)
 
-    pub link_hand : (named : Option Version) → naming_word named ≡ x
-        → grip.hand ++ option_to_list named
-        ≡ grip.hand ++ taken (Looks (LoadLink (known_at s v) want)) x (learns s.part seated.own).found
-    link_hand named e = ap (λ (l : _). grip.hand ++ l)
-        (ap option_to_list (named_in named x e)
-        ∙ sym (hand_link (known_at s v) want x (learns s.part seated.own).found
-        (learns s.part seated.own).what))
+      -- a load of a link took what it names
+      pub link_now : (x ≤ 2 ^ 32 → naming_word named ≡ x)
+          → IsSeated lawful allowed seat' (facts_of seat' grip') shape number to used
+          × Takes lawful allowed o (Looks (LoadLink (known_at o v) (want o))) (naming_word named)
+          (facts_of seat' grip')
+      link_now names =
+          let e = names link_small in
+          let both = moved lawful allowed seat seat' grip grip' shape number to used seated o is
+          (λ f. Looks (LoadLink (known_at f v) (want f))) x learns table slots named took
+          (ap option_to_list (named_in named x e)
+          ∙ sym (hand_link (known_at s v) (want s) x (learns s.part seated.own).found
+          (learns s.part seated.own).what))
+          used (omega arith) in (
+            both.0,
+            subst (λ (w : ℕ). Takes lawful allowed o (Looks (LoadLink (known_at o v) (want o))) w
+                (facts_of seat' grip')) (sym e) both.1,
+          )

@@ -1,6 +1,7 @@
 -- A pass whose seat took a move, as what its call leaves.
 use Rattle.std.proofs.Common.{◌≡◌, ◌⊎◌, ◌<◌, ◌+◌, ℕ, zero, suc, List, [], ◌∷◌, ◌++◌, length, get_or, map, slice_set, Option, Some, None, IfSome, Contains, All, is_some, refl, sym, ap, ◌∙◌, subst, arith, inl, inr, ⊎_elim, append-nil, length-append}
 use Rattle.std.specs.Prelude.{slice_get}
+use Rattle.std.specs.Option.{option_to_list}
 use Rattle.std.proofs.lemmas.List.Elements.{All-append, All-contains_itself}
 use Rattle.atomic_table.specs.declared.shared.Seat.{Seat}
 use Rattle.hm_shape.specs.declared.shape.Shape.{Shape}
@@ -222,3 +223,27 @@ module _ {U : Type 0} (lawful : U → PlainStore → Type 0) (allowed : U → Pl
           (sight_of z))
           (sym after_is) tells_new;
     }
+
+-- a call whose act is this of what its pass knew, and that took what was named into the hand
+module _ {U : Type 0} (lawful : U → PlainStore → Type 0) (allowed : U → PlainStore → Entry → Type 0)
+    (seat seat' : Seat (Unit {0}) (Knowledge U)) (grip grip' : Gripped U) (shape : Shape) (number to used : ℕ)
+    (seated : IsSeated lawful allowed seat (facts_of seat grip) shape number to used) (o : Facts U)
+    (is : facts_of seat grip ≡ o) (f : Facts U → Act) (x : ℕ)
+    (learns : Learns lawful allowed (move_by (facts_of seat grip) (f (facts_of seat grip))) 0 seat.me.0 x
+    seat'.me.0)
+    (table : seat'.table_id ≡ seat.table_id) (slots : seat'.me.1 ≡ seat.me.1) where
+  pub moved : (named : Option Version) → grip' ≡ record grip { hand = grip.hand ++ option_to_list named }
+      → option_to_list named
+      ≡ taken (f (facts_of seat grip)) x (learns (facts_of seat grip).part seated.own).found
+      → (used' : ℕ) → used' ≡ used + count_of (publishes (f (facts_of seat grip)) x)
+      → IsSeated lawful allowed seat' (facts_of seat' grip') shape number to used'
+      × Takes lawful allowed o (f o) x (facts_of seat' grip')
+  moved named took hand used' more =
+      let roots = ap (λ (h : Gripped U). h.roots) took in
+      let hands = ap (λ (h : Gripped U). h.hand) took ∙ ap (λ (l : List Version). grip.hand ++ l) hand in (
+        seated_now lawful allowed seat seat' grip grip' shape number to used (f (facts_of seat grip)) x seated
+            learns table slots roots hands used' more,
+        subst (λ (s : Facts U). Takes lawful allowed s (f s) x (facts_of seat' grip')) is
+            (takes_now lawful allowed seat seat' grip grip' shape number to used (f (facts_of seat grip)) x
+            seated learns table slots roots hands),
+      )

@@ -28,6 +28,8 @@ use Rattle.hm_cells.specs.Calls.{IsWhole, MayPublish, drafted, drafted_name, dra
 use Rattle.hm_cells.specs.Shows.{IsReady, IsSeated, Learns, Stores, facts_of}
 use Rattle.hm_cells.proofs.Fields.{naming_in}
 use Rattle.hm_cells.proofs.Found.{there_is}
+use Rattle.hm_cells.proofs.Moved.{moved}
+use Rattle.hm_cells.specs.Calls.{Takes}
 use Rattle.hm_cells.proofs.Ready.{ready}
 use Rattle.hm_cells.proofs.Wanting.{place_known}
 
@@ -189,21 +191,29 @@ module _ {U : Type 0} (lawful : U → PlainStore → Type 0) (allowed : U → Pl
             };
           }
 
-    module _ (seat' : Seat (Unit {0}) (Knowledge U)) (x : ℕ) where
+    module _ (seat' : Seat (Unit {0}) (Knowledge U)) (grip' : Gripped U)
+        (table : seat'.table_id ≡ seat.table_id) (slots : seat'.me.1 ≡ seat.me.1) (x : ℕ) where
       -- a store takes nothing into the hand
-      pub own_hand : (i word : ℕ) → (learns : Learns lawful allowed (move_by here (Builds (StoreOwn i word))) 0 seat.me.0 x seat'.me.0)
-          → grip.hand ≡ grip.hand ++ taken (Builds (StoreOwn i word)) x (learns here.part seated.own).found
-      own_hand i word learns =
-          sym (ap (λ (f : Option Known). grip.hand ++ taken (Builds (StoreOwn i word)) x f)
-          (learns here.part seated.own).what
-          ∙ append-nil grip.hand)
+      pub own_now : (i word : ℕ)
+          → (learns : Learns lawful allowed (move_by here (Builds (StoreOwn i word))) 0 seat.me.0 x seat'.me.0)
+          → IsSeated lawful allowed seat' (facts_of seat' grip) shape number to used
+          × Takes lawful allowed o (Builds (StoreOwn i word)) x (facts_of seat' grip)
+      own_now i word learns =
+          moved lawful allowed seat seat' grip grip shape number to used seated o is
+          (λ f. Builds (StoreOwn i word)) x learns table slots None
+          (λ j. record grip { hand = sym (append-nil grip.hand) j })
+          (ap (taken (Builds (StoreOwn i word)) x) (sym (learns here.part seated.own).what))
+          used (omega arith)
 
       -- what is published is in hand
-      pub first_hand : (learns : Learns lawful allowed (move_by here (Builds (Publish
-          (drafted here.part)))) 0 seat.me.0 x seat'.me.0)
-          → grip.hand ++ option_to_list (Some v)
-          ≡ grip.hand ++ taken (Builds (Publish (drafted here.part))) x (learns here.part seated.own).found
-      first_hand learns =
-          ap (λ (w : Version). grip.hand ++ w ∷ []) (sym next_is)
-          ∙ sym (ap (λ (f : Option Known). grip.hand ++ taken (Builds (Publish (drafted here.part))) x f)
-          (learns here.part seated.own).what)
+      pub first_now : grip' ≡ record grip { hand = grip.hand ++ option_to_list (Some v) }
+          → (learns : Learns lawful allowed (move_by here (Builds (Publish (drafted here.part)))) 0 seat.me.0 x
+          seat'.me.0)
+          → IsSeated lawful allowed seat' (facts_of seat' grip') shape number to (used + 1)
+          × Takes lawful allowed o (Builds (Publish (drafted o.part))) x (facts_of seat' grip')
+      first_now took learns =
+          moved lawful allowed seat seat' grip grip' shape number to used seated o is
+          (λ f. Builds (Publish (drafted f.part))) x learns table slots (Some v) took
+          (ap (λ (w : Version). w ∷ []) (sym next_is)
+          ∙ ap (taken (Builds (Publish (drafted here.part))) x) (sym (learns here.part seated.own).what))
+          (used + 1) refl

@@ -18,4 +18,4 @@ module _ {U : Type 0} where
 
   -- the hand has other versions
   abbrev pub handing : Holding U → List Version → Holding U
-  handing h hand = record { site = h.site; hand = hand }
+  handing h hand = record h { hand = hand }

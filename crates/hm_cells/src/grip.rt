@@ -108,10 +108,8 @@ impl<U> Grip<U> {
     /// The place then names this version, or none.
     pub fn set(&mut self, r: Root, version: Option<Version>)
         requires { r.0 < 256 }
-        ensures { self.new ≡ record {
-          site = self.old.site;
+        ensures { self.new ≡ record self.old {
           roots = slice_set self.old.roots r.0 version;
-          hand = self.old.hand;
         } }
     {
         self.roots[r.0 as usize] = version;
@@ -119,11 +117,7 @@ impl<U> Grip<U> {
 
     /// The version, if one is given, is in hand from then on.
     pub fn take(&mut self, version: Option<Version>)
-        ensures { self.new ≡ record {
-          site = self.old.site;
-          roots = self.old.roots;
-          hand = self.old.hand ++ option_to_list version;
-        } }
+        ensures { self.new ≡ record self.old { hand = self.old.hand ++ option_to_list version } }
     {
         if version.is_some() {
             self.step::<Brand>(version);
@@ -132,21 +126,13 @@ impl<U> Grip<U> {
 
     /// The version is no longer in hand, or once less.
     pub fn release(&mut self, version: Version)
-        ensures { self.new ≡ record {
-          site = self.old.site;
-          roots = self.old.roots;
-          hand = without_first version self.old.hand;
-        } }
+        ensures { self.new ≡ record self.old { hand = without_first version self.old.hand } }
     {
         self.step::<Brand>(Some(version));
     }
 
     fn step<J: Handing>(&mut self, _version: Option<Version>)
-        ensures { self.new ≡ record {
-          site = self.old.site;
-          roots = self.old.roots;
-          hand = J.picked;
-        } }
+        ensures { self.new ≡ record self.old { hand = J.picked } }
     {
         let table = &self.table;
         table.shared.load::<Hands<J>>(&mut self.seat, 0);

@@ -5,8 +5,7 @@ use Rattle.hm_cells.specs.Facts.{Facts, known_at}
 use Rattle.hm_cells.specs.Calls.{Takes}
 use Rattle.hm_cells.specs.Grips.{Gripped}
 use Rattle.hm_cells.specs.Shows.{facts_of}
-use Rattle.hm_cells.proofs.Loading.{load_fit, load_version, field_ready, field_hand}
-use Rattle.hm_cells.proofs.Moved.{seated_now, takes_now}
+use Rattle.hm_cells.proofs.Loading.{load_fit, load_version, field_ready, field_now}
 use Rattle.hm_cells.proofs.steps.load_field.Goals as goal
 
 pub load-word-requires-clause-version : goal.load-word-requires-clause-version
@@ -26,39 +25,19 @@ pub invariant_of-pass : goal.invariant_of-pass
 invariant_of-pass g c =
     let i = c.pass.inside in
     let e = c.load-word.ensures in
-    seated_now g.U.Usage.lawful g.U.Usage.allowed i.seat c.load-word.new.seat i.grip c.take.new.self i.shape
-    i.number i.to
-    i.used (Looks (field_look (known_at (facts_of i.seat i.grip) c.args.v) c.args.i)) c.load-word.result
-    c.pass.invariant
-    e.told e.own e.slots
-    (ap (λ (x : Gripped g.row.U.Denot). x.roots) c.take.ensures)
-    (ap (λ (x : Gripped g.row.U.Denot). x.hand) c.take.ensures
-    ∙ field_hand g.U.Usage.lawful g.U.Usage.allowed i.seat i.grip i.shape i.number i.to i.used c.pass.invariant
-    c.args.pass.now c.pass.view_is c.load-word.new.seat c.args.v c.args.i c.load-word.result
-    c.requires.word.0 c.requires.word.1 e.told c.named_by.result c.named_by.ensures.named
-    c.named_by.ensures.none)
-    i.used
-    (omega arith)
+    (field_now g.U.Usage.lawful g.U.Usage.allowed i.seat i.grip i.shape i.number i.to i.used c.pass.invariant
+    c.args.pass.now c.pass.view_is c.load-word.new.seat c.take.new.self e.own e.slots c.args.v
+    c.load-word.result c.named_by.result c.take.ensures c.args.i c.requires.word.0 c.requires.word.1 e.told
+    c.named_by.ensures.named c.named_by.ensures.none).0
 
 pub returns-clause-took : goal.returns-clause-took
 returns-clause-took g c =
     let i = c.pass.inside in
     let e = c.load-word.ensures in
-    subst (λ (o : Facts g.row.U.Denot). Takes g.U.Usage.lawful g.U.Usage.allowed o
-    (Looks (field_look (known_at o c.args.v) c.args.i)) c.load-word.result (facts_of c.load-word.new.seat
-    c.take.new.self))
-    c.pass.view_is
-    (takes_now g.U.Usage.lawful g.U.Usage.allowed i.seat c.load-word.new.seat i.grip c.take.new.self i.shape
-    i.number i.to
-    i.used (Looks (field_look (known_at (facts_of i.seat i.grip) c.args.v) c.args.i)) c.load-word.result
-    c.pass.invariant
-    e.told e.own e.slots
-    (ap (λ (x : Gripped g.row.U.Denot). x.roots) c.take.ensures)
-    (ap (λ (x : Gripped g.row.U.Denot). x.hand) c.take.ensures
-    ∙ field_hand g.U.Usage.lawful g.U.Usage.allowed i.seat i.grip i.shape i.number i.to i.used c.pass.invariant
-    c.args.pass.now c.pass.view_is c.load-word.new.seat c.args.v c.args.i c.load-word.result
-    c.requires.word.0 c.requires.word.1 e.told c.named_by.result c.named_by.ensures.named
-    c.named_by.ensures.none))
+    (field_now g.U.Usage.lawful g.U.Usage.allowed i.seat i.grip i.shape i.number i.to i.used c.pass.invariant
+    c.args.pass.now c.pass.view_is c.load-word.new.seat c.take.new.self e.own e.slots c.args.v
+    c.load-word.result c.named_by.result c.take.ensures c.args.i c.requires.word.0 c.requires.word.1 e.told
+    c.named_by.ensures.named c.named_by.ensures.none).1
 
 pub returns-clause-fit : goal.returns-clause-fit
 returns-clause-fit g c =

@@ -6,8 +6,7 @@ use Rattle.hm_cells.specs.Calls.{MayWant, Takes, wanted}
 use Rattle.hm_cells.specs.Grips.{Gripped}
 use Rattle.hm_cells.specs.Shows.{facts_of}
 use Rattle.hm_cells.proofs.Wanting.{HasLengths, want_may, want_reads}
-use Rattle.hm_cells.proofs.Loading.{load_fit, load_version, link_ready, link_hand, link_small}
-use Rattle.hm_cells.proofs.Moved.{seated_now, takes_now}
+use Rattle.hm_cells.proofs.Loading.{load_fit, load_version, link_ready, link_now}
 use Rattle.hm_cells.proofs.steps.load_link.Goals as goal
 
 pub load-word-requires-clause-version : goal.load-word-requires-clause-version
@@ -34,51 +33,19 @@ pub invariant_of-pass : goal.invariant_of-pass
 invariant_of-pass g c =
     let i = c.pass.inside in
     let e = c.load-word.ensures in
-    let s : Facts g.row.U.Denot = facts_of i.seat i.grip in
-    let small = link_small g.U.Usage.lawful g.U.Usage.allowed i.seat i.grip i.shape i.number i.to i.used
-    c.pass.invariant
-    c.args.pass.now c.pass.view_is c.load-word.new.seat c.args.v (wanted s (known_at s c.args.v) c.args.want)
-    c.load-word.result e.told in
-    seated_now g.U.Usage.lawful g.U.Usage.allowed i.seat c.load-word.new.seat i.grip c.take.new.self i.shape
-    i.number i.to
-    i.used (Looks (LoadLink (known_at s c.args.v)
-    (wanted s (known_at s c.args.v) c.args.want))) c.load-word.result
-    c.pass.invariant e.told e.own e.slots
-    (ap (λ (x : Gripped g.row.U.Denot). x.roots) c.take.ensures)
-    (ap (λ (x : Gripped g.row.U.Denot). x.hand) c.take.ensures
-    ∙ link_hand g.U.Usage.lawful g.U.Usage.allowed i.seat i.grip i.shape i.number i.to i.used c.pass.invariant
-    c.args.pass.now c.pass.view_is c.load-word.new.seat c.args.v (wanted s (known_at s c.args.v) c.args.want)
-    c.load-word.result e.told c.named-next.result (c.named-next.ensures.named small))
-    i.used (omega arith)
+    (link_now g.U.Usage.lawful g.U.Usage.allowed i.seat i.grip i.shape i.number i.to i.used c.pass.invariant
+    c.args.pass.now c.pass.view_is c.load-word.new.seat c.take.new.self e.own e.slots c.args.v
+    c.load-word.result c.named-next.result c.take.ensures (λ s. wanted s (known_at s c.args.v) c.args.want) e.told
+    c.named-next.ensures.named).0
 
 pub returns-clause-took : goal.returns-clause-took
 returns-clause-took g c =
     let i = c.pass.inside in
     let e = c.load-word.ensures in
-    let s : Facts g.row.U.Denot = facts_of i.seat i.grip in
-    let small = link_small g.U.Usage.lawful g.U.Usage.allowed i.seat i.grip i.shape i.number i.to i.used
-    c.pass.invariant
-    c.args.pass.now c.pass.view_is c.load-word.new.seat c.args.v (wanted s (known_at s c.args.v) c.args.want)
-    c.load-word.result e.told in
-    subst (λ (w : ℕ). Takes g.U.Usage.lawful g.U.Usage.allowed c.args.pass.now
-    (Looks (LoadLink (known_at c.args.pass.now c.args.v)
-    (wanted c.args.pass.now (known_at c.args.pass.now c.args.v) c.args.want)))
-    w (facts_of c.load-word.new.seat c.take.new.self)) (sym (c.named-next.ensures.named small))
-    (subst (λ (o : Facts g.row.U.Denot). Takes g.U.Usage.lawful g.U.Usage.allowed o
-    (Looks (LoadLink (known_at o c.args.v)
-    (wanted o (known_at o c.args.v) c.args.want)))
-    c.load-word.result (facts_of c.load-word.new.seat c.take.new.self))
-    c.pass.view_is
-    (takes_now g.U.Usage.lawful g.U.Usage.allowed i.seat c.load-word.new.seat i.grip c.take.new.self i.shape
-    i.number i.to
-    i.used (Looks (LoadLink (known_at s c.args.v)
-    (wanted s (known_at s c.args.v) c.args.want))) c.load-word.result
-    c.pass.invariant e.told e.own e.slots
-    (ap (λ (x : Gripped g.row.U.Denot). x.roots) c.take.ensures)
-    (ap (λ (x : Gripped g.row.U.Denot). x.hand) c.take.ensures
-    ∙ link_hand g.U.Usage.lawful g.U.Usage.allowed i.seat i.grip i.shape i.number i.to i.used c.pass.invariant
-    c.args.pass.now c.pass.view_is c.load-word.new.seat c.args.v (wanted s (known_at s c.args.v) c.args.want)
-    c.load-word.result e.told c.named-next.result (c.named-next.ensures.named small))))
+    (link_now g.U.Usage.lawful g.U.Usage.allowed i.seat i.grip i.shape i.number i.to i.used c.pass.invariant
+    c.args.pass.now c.pass.view_is c.load-word.new.seat c.take.new.self e.own e.slots c.args.v
+    c.load-word.result c.named-next.result c.take.ensures (λ s. wanted s (known_at s c.args.v) c.args.want) e.told
+    c.named-next.ensures.named).1
 
 pub returns-clause-fit : goal.returns-clause-fit
 returns-clause-fit g c =

@@ -4,8 +4,7 @@ use Rattle.hm_moves.specs.declared.moving.Build.TheVariants.{StoreOwn}
 use Rattle.hm_cells.specs.Facts.{Facts}
 use Rattle.hm_cells.specs.Calls.{Takes}
 use Rattle.hm_cells.specs.Shows.{facts_of}
-use Rattle.hm_cells.proofs.Storing.{own_ready, own_hand}
-use Rattle.hm_cells.proofs.Moved.{seated_now, takes_now}
+use Rattle.hm_cells.proofs.Storing.{own_ready, own_now}
 use Rattle.hm_cells.proofs.steps.store_own.Goals as goal
 
 pub store-requires-clause-ready : goal.store-requires-clause-ready
@@ -19,26 +18,17 @@ pub invariant_of-pass : goal.invariant_of-pass
 invariant_of-pass g c =
     let i = c.pass.inside in
     let e = c.store.ensures in
-    seated_now g.U.Usage.lawful g.U.Usage.allowed i.seat c.store.new.seat i.grip i.grip i.shape i.number i.to
-    i.used
-    (Builds (StoreOwn c.args.i c.args.word)) c.args.word c.pass.invariant e.told e.own e.slots refl
-    (own_hand g.U.Usage.lawful g.U.Usage.allowed i.seat i.grip i.shape i.number i.to i.used c.pass.invariant
-    c.args.pass.now c.pass.view_is c.next_version-next.result c.next_version-next.ensures c.store.new.seat c.args.word
-    c.args.i c.args.word e.told)
-    i.used (omega arith)
+    (own_now g.U.Usage.lawful g.U.Usage.allowed i.seat i.grip i.shape i.number i.to i.used c.pass.invariant
+    c.args.pass.now c.pass.view_is c.next_version-next.result c.next_version-next.ensures c.store.new.seat
+    i.grip e.own e.slots c.args.word c.args.i c.args.word e.told).0
 
 pub returns-clause-took : goal.returns-clause-took
 returns-clause-took g c =
     let i = c.pass.inside in
     let e = c.store.ensures in
-    subst (λ (o : Facts g.row.U.Denot). Takes g.U.Usage.lawful g.U.Usage.allowed o
-    (Builds (StoreOwn c.args.i c.args.word)) c.args.word (facts_of c.store.new.seat i.grip)) c.pass.view_is
-    (takes_now g.U.Usage.lawful g.U.Usage.allowed i.seat c.store.new.seat i.grip i.grip i.shape i.number i.to
-    i.used
-    (Builds (StoreOwn c.args.i c.args.word)) c.args.word c.pass.invariant e.told e.own e.slots refl
-    (own_hand g.U.Usage.lawful g.U.Usage.allowed i.seat i.grip i.shape i.number i.to i.used c.pass.invariant
-    c.args.pass.now c.pass.view_is c.next_version-next.result c.next_version-next.ensures c.store.new.seat c.args.word
-    c.args.i c.args.word e.told))
+    (own_now g.U.Usage.lawful g.U.Usage.allowed i.seat i.grip i.shape i.number i.to i.used c.pass.invariant
+    c.args.pass.now c.pass.view_is c.next_version-next.result c.next_version-next.ensures c.store.new.seat
+    i.grip e.own e.slots c.args.word c.args.i c.args.word e.told).1
 
 pub returns-clause-sound : goal.returns-clause-sound
 returns-clause-sound g c = (invariant_of-pass g c).sound
