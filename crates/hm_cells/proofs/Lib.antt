@@ -1,20 +1,26 @@
+-- what a caller is sure of, and what a step tells it
 pub mod Sure
 pub mod Learning
+-- each call is one step of the machine that the Table depicts
 pub mod Refines
+-- held versions, root places and what is seen of them
 pub mod Found
+pub mod Few
+pub mod Rooted
 pub mod Entered
+-- a pass after a step, and after steps that move no word
 pub mod Moved
-pub mod Fields
+pub mod Stepped
+pub mod Rested
+-- when each call may be made, and what it leaves
 pub mod Ready
+pub mod Fields
 pub mod Loading
 pub mod Wanting
 pub mod Storing
-pub mod Rooted
-pub mod Rested
+pub mod Linking
+pub mod Creating
+-- fresh cells and their passes
 pub mod Opening
 pub mod Fresh
 pub mod Dealt
-pub mod Few
-pub mod Stepped
-pub mod Creating
-pub mod Linking

@@ -28,7 +28,7 @@ impl<U: Usage> Model for Note<U> {
     ghost invariant = { λ n. (n.seat.me.0.view.parts ≡ []) × (n.seat.me.1 ≡ []) };
 }
 
-/// Splits off a note with a copy of what the caller has seen.
+/// Splits off a note with a copy of what the caller has seen. This is one step of the Table, which moves no word.
 pub fn split<U: Usage>(cells: &Cells<U>, pass: &mut Pass<U>) -> Note<U>
     requires { Fits pass.old cells.now }
     ensures pass { pass.new ≡ rested pass.old pass.old.seen 1 }
@@ -41,6 +41,9 @@ pub fn split<U: Usage>(cells: &Cells<U>, pass: &mut Pass<U>) -> Note<U>
 }
 
 /// Takes a note in. The caller has then seen the longer of its own history and the note's.
+///
+/// These are two steps: the note's seat is joined to the caller's, and then the stage word is loaded. The load
+/// decides nothing; by it contracts know what the caller is sure of once it has seen more.
 pub fn meet<U: Usage>(cells: &Cells<U>, pass: &mut Pass<U>, note: Note<U>)
     requires cells { Fits pass.old cells.now }
     requires note { note.cells ≡ cells.now.table }
@@ -49,5 +52,6 @@ pub fn meet<U: Usage>(cells: &Cells<U>, pass: &mut Pass<U>, note: Note<U>)
 {
     let Note { seat } = note;
     cells.meet(&mut pass.seat, seat);
+    // After the joining, so that what the caller is sure of is told of the longer history.
     cells.look::<Brand>(&mut pass.seat, &pass.grip);
 }

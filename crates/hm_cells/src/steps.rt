@@ -41,6 +41,7 @@ pub fn load_field<U: Usage>(
     ensures sound { IsSound U.lawful U.allowed pass.new }
 {
     let word = cells.load::<Brand>(&mut pass.seat, &pass.grip, v, i, &Want::Nothing);
+    // In hand before the next step, which lets go of a held version that nothing names.
     pass.grip.take(named_by(i, word));
     word
 }
@@ -80,8 +81,10 @@ pub fn load_link<U: Usage>(
     ensures fit { IsFit pass.old.part.site.shape (done_seen pass.old.part) (known_at pass.old v) }
     ensures sound { IsSound U.lawful U.allowed pass.new }
 {
+    // The load that finds no link makes the entry: one step later another version may hang there.
     let word = cells.load::<Brand>(&mut pass.seat, &pass.grip, v, LINK, &want);
     let next = Version::named(word);
+    // As in load_field: the next step lets go of what nothing names.
     pass.grip.take(next);
     next
 }
@@ -97,6 +100,7 @@ pub fn store_own<U: Usage>(cells: &Cells<U>, pass: &mut Pass<U>, i: u32, word: u
     ensures sound { IsSound U.lawful U.allowed pass.new }
 {
     let next = pass.next_version();
+    // No word names this version yet, so its words go in any order, and anew after an exchange that failed.
     cells.store::<Brand>(&mut pass.seat, &pass.grip, next, i, word);
 }
 
@@ -114,7 +118,9 @@ pub fn publish<U: Usage>(cells: &Cells<U>, pass: &mut Pass<U>) -> Version
     ensures sound { IsSound U.lawful U.allowed pass.new }
 {
     let next = pass.next_version();
+    // The link goes last: from here on others may come to this version, and no word of it changes any more.
     cells.store::<Brand>(&mut pass.seat, &pass.grip, next, LINK, 0);
+    // Counted before another own word is stored, which would else go into the version just published.
     pass.used += 1;
     pass.grip.take(Some(next));
     next
@@ -147,14 +153,18 @@ pub fn link_store<U: Usage>(
     ensures sound { IsSound U.lawful U.allowed pass.new }
 {
     let next = pass.next_version();
+    // One exchange finds that there is no link, hangs the copy and makes the entry. By a load and then a store two
+    // callers could both find none, and the later copy would take the link from the earlier: a lost store.
     let word = cells.exchange::<Brand>(&mut pass.seat, &pass.grip, v, next, &want);
     match Version::named(word) {
         None => {
+            // As in publish: the place is taken before another own word is stored.
             pass.used += 1;
             pass.grip.take(Some(next));
             Ok(next)
         }
         Some(later) => {
+            // Not counted: nobody has seen the copy, and the next attempt writes into the same place.
             pass.grip.take(Some(later));
             Err(later)
         }

@@ -235,6 +235,7 @@ impl<U: Usage> Cells<U> {
     {
         let table = &self.table;
         let word = v.word_of(self.shape, LINK) as usize;
+        // From 0 alone: a link that names a version stays, or the versions behind it would be cut off.
         table
             .shared
             .compare_exchange::<Moves<J>>(seat, word, 0, next.name())
