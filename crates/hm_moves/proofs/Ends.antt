@@ -1,7 +1,6 @@
 -- Chains end, since ranks rise along links.
 use Rattle.std.proofs.Common.{◌≡◌, ◌≤◌, ◌<◌, ◌+◌, ℕ, zero, suc, Some, refl, sym, ap, ◌∙◌, subst, arith}
 use Rattle.hm_shape.specs.declared.shape.Shape.{Shape}
-use Rattle.hm_shape.specs.Versions.{version_count}
 use Rattle.hm_shape.specs.Words.{naming_word}
 use Rattle.hm_moves.specs.declared.part.Known.{Known}
 use Rattle.hm_moves.specs.Places.{Heap, row_count, total, rank_limit}

@@ -28,7 +28,7 @@ use Rattle.hm_moves.specs.Places.{Heap, row_count, raised, HasHead, places_with,
 use Rattle.hm_moves.specs.Chain.{IsPublished, with_one, HasContents, Refers, IsLinked, AreChained, reference_at, link_of}
 use Rattle.hm_moves.specs.Acts.{next_version, word_of, want_of, looked_word, listed, where_zero, looked_at}
 use Rattle.hm_moves.specs.After.{heap_after, row_of_part}
-use Rattle.hm_moves.specs.Allowed.{Spells, IsWritten, IsBuilt, MayLookInto, IsKnownName, HasRoom, IsFirst, IsLater, Turns, MayTake, MayPublish, TurnsBy, MayLink, MayLook, Reads}
+use Rattle.hm_moves.specs.Allowed.{Spells, IsWritten, IsBuilt, MayLookInto, IsKnownName, HasRoom, IsFirst, MayTake, MayPublish, TurnsBy, MayLink, MayLook, Reads}
 use Rattle.hm_moves.specs.Good.{HeapIsGood, PartIsGood, AreBelow}
 use Rattle.hm_moves.proofs.Histories.{below_more, lawful_with}
 use Rattle.hm_moves.proofs.Placed.{place_small, placed_more, elsewhere, written_here, contents_same, true_more, not_the_one, ranked_more}

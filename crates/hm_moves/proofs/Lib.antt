@@ -20,5 +20,6 @@ pub mod Letting
 pub mod Seats
 -- a fresh machine, and what follows for all that it leads to
 pub mod Fresh
+pub mod FirstWords
 pub mod Safe
 pub mod Ends

@@ -21,7 +21,7 @@ use Rattle.hm_moves.specs.declared.moving.Look.TheVariants.{LoadStamp, LoadRefer
 use Rattle.std.specs.List.{list_any}
 use Rattle.hm_moves.specs.declared.moving.Build.TheVariants.{StoreOwn, Publish, LinkStore}
 use Rattle.hm_moves.specs.declared.moving.Move.{Move}
-use Rattle.hm_moves.specs.Places.{Heap, row_of, raised, Places, IsOwn, places_with}
+use Rattle.hm_moves.specs.Places.{Heap, row_of, Places, IsOwn, places_with}
 use Rattle.hm_moves.specs.Chain.{IsPublished, Index}
 use Rattle.hm_moves.specs.Acts.{next_version, word_of, becomes, entry_of, publishes, finds, listed, looked_at, looked_word}
 use Rattle.hm_moves.specs.After.{heap_after, index_with, row_of_part, count_of, is_naming, written_with, without, with_held, hands_after, part_after, seen_after, is_version}

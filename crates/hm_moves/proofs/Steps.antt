@@ -1,5 +1,5 @@
 -- A move of a seat's caller leaves a good machine, and what it tells the caller is so.
-use Rattle.std.proofs.Common.{◌≡◌, ◌≢◌, ◌⊎◌, ℕ, List, slice_index, Option, Some, None, IfSome, refl, sym, ap, ◌∙◌, subst, arith, ⊎_elim}
+use Rattle.std.proofs.Common.{◌≡◌, ◌≢◌, ℕ, List, slice_index, Option, IfSome, refl, sym, ap, subst}
 use mathlib.Core.Option.{some}
 use lib.ListN.{get_elem?}
 use Rattle.hm_model.specs.declared.entry.Entry.{Entry}
@@ -13,7 +13,7 @@ use Rattle.hm_moves.specs.declared.part.Site.{Site}
 use Rattle.hm_moves.specs.declared.part.Part.{Part}
 use Rattle.hm_moves.specs.declared.part.View.{View}
 use Rattle.hm_moves.specs.declared.moving.Move.{Move}
-use Rattle.hm_moves.specs.Places.{Heap, IsFit, row_count}
+use Rattle.hm_moves.specs.Places.{Heap, IsFit}
 use Rattle.hm_moves.specs.Chain.{IsPublished}
 use Rattle.hm_moves.specs.Acts.{word_of, entry_of, finds, listed, publishes}
 use Rattle.hm_moves.specs.After.{heap_after, part_after, view_after, seen_after}

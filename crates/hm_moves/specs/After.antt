@@ -1,5 +1,5 @@
 -- What a move leaves: the heap, the caller's draft and hands, and what its seat has seen.
-use Rattle.std.specs.Prelude.{◌≡◌, ℕ, ◌+◌, ◌==◌, ◌&&◌, ◌||◌, not, nat_le, nat_lt, Bool, List, [], ◌∷◌, ◌++◌, slice_set, Option, Some, None, filter, replicate, if◌then◌else◌}
+use Rattle.std.specs.Prelude.{ℕ, ◌+◌, ◌==◌, ◌&&◌, ◌||◌, not, nat_le, nat_lt, Bool, List, [], ◌∷◌, ◌++◌, slice_set, Option, Some, None, filter, replicate, if◌then◌else◌}
 use Rattle.std.specs.List.{list_any}
 use Rattle.hm_shape.specs.declared.version.TheConstants.{FIRST_NUMBER, FIRST_REFERENCE, LINK, VERSION_WORDS}
 use Rattle.hm_shape.specs.Words.{naming_word}

@@ -1,13 +1,11 @@
 -- Versions in the words of the Table: which are published, what their words say, and how links chain them.
-use Rattle.std.specs.Prelude.{◌≡◌, ℕ, zero, suc, ◌+◌, ◌*◌, ◌<◌, ◌≤◌, ◌==◌, List, slice_index, slice_index_or, Option, Some, None, if◌then◌else◌}
+use Rattle.std.specs.Prelude.{◌≡◌, ℕ, zero, suc, ◌+◌, ◌<◌, ◌≤◌, ◌==◌, List, slice_index, slice_index_or, Option, Some, None, if◌then◌else◌}
 use Rattle.hm_shape.specs.declared.shape.Shape.{Shape}
 use Rattle.hm_shape.specs.declared.version.TheConstants.{FIRST_NUMBER, FIRST_REFERENCE, LINK, STAMP}
-use Rattle.hm_shape.specs.Versions.{IsVersionOf, version_count}
 use Rattle.hm_shape.specs.Words.{word_at, naming_word}
 use Rattle.hm_model.specs.declared.object.Name.{Name}
 use Rattle.hm_model.specs.declared.object.Contents.{Contents}
-use Rattle.hm_model.specs.declared.entry.Entry.{Entry}
-use Rattle.hm_model.specs.Store.{IsSized, PlainStore, contents_of, IsThere}
+use Rattle.hm_model.specs.Store.{PlainStore, contents_of, IsThere}
 use Rattle.hm_moves.specs.declared.part.Known.{Known}
 
 -- the heap knows of the version of each number, where that is published

@@ -23,7 +23,7 @@ use Rattle.hm_moves.specs.declared.moving.Move.{Move}
 use Rattle.hm_moves.specs.Chain.{Index, IsPublished, AreChained, AreTrue}
 use Rattle.hm_moves.specs.Places.{Heap, ArePlaced, AreRanked, HasHead, IsOwn, row_of}
 use Rattle.hm_moves.specs.Acts.{word_of, finds}
-use Rattle.hm_moves.specs.After.{heap_after, is_naming, is_version, letting, view, view_after, view_letting}
+use Rattle.hm_moves.specs.After.{heap_after, is_naming, is_version, view, view_after, view_letting}
 use Rattle.hm_moves.specs.Allowed.{IsWritten, Names}
 
 -- a list begins with another

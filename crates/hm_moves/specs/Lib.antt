@@ -6,5 +6,6 @@ pub mod Allowed
 pub mod Good
 pub mod Told
 pub mod Fresh
+pub mod FirstWords
 pub mod Safe
 pub mod Ends

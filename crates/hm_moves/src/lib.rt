@@ -3,7 +3,8 @@
 //! A *moment* of the heap has the words of the Table, what is known of each published version, how many places of each
 //! region are used, the history of all entries, and a *view* for each seat. A view has the history that the seat has
 //! seen, and a part for each caller that it carries; the view of a note has none. No call of the running heap makes
-//! these values: contracts and proofs alone speak of them.
+//! these values: contracts and proofs alone speak of them. One function runs: [`first_words`] makes the words of a
+//! fresh Table (`specs/FirstWords.antt`).
 //!
 //! A *move* of a caller is one load, one store or one exchange of one word. It is given by cuts, each a function of the
 //! caller's part and of the word that was found: the word that it moves, what that becomes, the entry that it makes,
@@ -36,6 +37,10 @@
 
 mod moving;
 mod part;
+mod starting;
+#[cfg(test)]
+mod tests;
 
 pub use moving::{Act, Build, Look, Move};
 pub use part::{Calls, Cycle, Draft, Hands, Known, MOST_HELD, Part, Site, View};
+pub use starting::first_words;
