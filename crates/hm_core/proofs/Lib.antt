@@ -17,3 +17,6 @@ pub mod AfterMove
 pub mod MoveNeeds
 pub mod LetGo
 pub mod Leading
+-- a fresh machine
+pub mod FirstVersions
+pub mod FirstMoment

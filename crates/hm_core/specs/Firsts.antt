@@ -1,28 +1,24 @@
 -- The tables of a fresh machine.
-use Rattle.std.specs.Prelude.{◌≡◌, ℕ, zero, suc, ◌-◌, List, [], ◌∷◌, ◌++◌, length, map, replicate, slice_set, Option, None, option_map}
+use Rattle.std.specs.Prelude.{◌≡◌, ℕ, zero, suc, ◌-◌, List, [], ◌∷◌, ◌++◌, length, map, replicate, slice_set, Option}
 use Rattle.hm_shape.specs.declared.shape.Shape.{Shape}
 use Rattle.hm_model.specs.declared.object.Name.{Name}
 use Rattle.hm_model.specs.declared.entry.Entry.{Entry}
 use Rattle.hm_model.specs.declared.entry.Entry.TheVariants.{Create}
 use Rattle.hm_model.specs.Store.{Numbers}
-use Rattle.hm_model.specs.Effect.{new_contents}
-use Rattle.hm_model.specs.History.{opening_of, starting_name}
+use Rattle.hm_model.specs.History.{opening_of, side_names}
 use Rattle.hm_moves.specs.declared.part.Known.{Known}
 use Rattle.hm_moves.specs.Places.{row_count}
-use Rattle.hm_moves.specs.Fresh.{starting_known, IsFreshCore}
+use Rattle.hm_moves.specs.Fresh.{side_known, IsFreshCore}
 use Rattle.hm_core.specs.declared.machine.Row.{Row}
 use Rattle.hm_core.specs.SeatStates.{SeatState}
 use Rattle.hm_core.specs.Hands.{HandState, fresh_hand}
 use Rattle.hm_core.specs.Running.{Moment, core_of, no_row, site_of}
 
--- a side object that is given has a name
-abbrev pub name_of_side : ℕ → Option Numbers → Option Name
-name_of_side k side = option_map (λ numbers. starting_name k) side
-
--- and a version
-abbrev pub version_of_side : ℕ → Option Numbers → Option Known
-version_of_side k side = option_map (λ numbers. starting_known k (new_contents (replicate 4 None) numbers))
-    side
+-- a side object, where it is given, comes with its version behind those that there are, and has this name
+pub record AddsSide (before : List Known) (side : Option Numbers) (name : Option Name)
+    (after : List Known) : Type 0 where
+  pub versions : after ≡ before ++ side_known (length before) (side ∷ [])
+  pub name_is : name ∷ [] ≡ side_names (length before) (side ∷ [])
 
 -- caller 0 makes each starting object by a Create
 abbrev pub creates_of : List Known → List Entry

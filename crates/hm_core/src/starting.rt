@@ -7,7 +7,7 @@ ghost use Rattle.hm_moves.specs.Places.{row_count};
 ghost use Rattle.hm_moves.specs.Acts.{listed};
 ghost use Rattle.hm_moves.specs.After.{nothing_written};
 ghost use Rattle.hm_moves.specs.Fresh.{all_known, starting_known};
-ghost use Rattle.hm_core.specs.Firsts.{IsFreshMachine, creates_of, name_of_side, version_of_side, first_rows, first_hands, first_seats};
+ghost use Rattle.hm_core.specs.Firsts.{IsFreshMachine, AddsSide, creates_of, first_rows, first_hands, first_seats};
 
 use crate::chronicle::Chronicle;
 use crate::contents::new_contents;
@@ -29,13 +29,14 @@ impl Machine {
         ensures shape { IfOk result (λ machine. machine.shape ≡ shape) }
         ensures start { IfOk result (λ machine. machine.start ≡ start) }
     {
-        let firsts = starting_versions(alloc, start)?;
         let words = first_words(alloc, shape, start)?;
-        let known = starting_index(alloc, shape, firsts.as_slice())?;
-        let chronicle = starting_chronicle(alloc, shape.callers, firsts.as_slice())?;
+        let versions = starting_versions(alloc, start)?;
+        let firsts = versions.as_slice();
+        let known = starting_index(alloc, shape, firsts)?;
+        let chronicle = starting_chronicle(alloc, shape.callers, firsts)?;
         let rows = starting_rows(alloc, shape, firsts.len() as u32)?;
         let common = firsts[firsts.len() - 1];
-        let hands = starting_hands(alloc, shape, common, firsts.as_slice())?;
+        let hands = starting_hands(alloc, shape, common, firsts)?;
         let seats = starting_seats(alloc, shape.callers, chronicle.count())?;
         Ok(Machine {
             alloc,
@@ -56,10 +57,13 @@ fn starting_versions(alloc: Global, start: Start) -> Result<Vec<Known>, AllocErr
     ensures { IfOk result (λ firsts. firsts.items ≡ all_known start) }
 {
     let mut firsts = Vec::with_capacity(alloc, start.objects() as usize)?;
-    let mut refs = [None; 4];
-    for i in 0..4usize {
-        refs[i] = add_side(&mut firsts, start.sides[i])?;
-    }
+    let [a, b, c, d] = start.sides;
+    let refs = [
+        add_side(&mut firsts, a)?,
+        add_side(&mut firsts, b)?,
+        add_side(&mut firsts, c)?,
+        add_side(&mut firsts, d)?,
+    ];
     let common = starting_version(firsts.len() as u32, refs, start.numbers);
     firsts.push(common)?;
     Ok(firsts)
@@ -67,10 +71,9 @@ fn starting_versions(alloc: Global, start: Start) -> Result<Vec<Known>, AllocErr
 
 // The version of a side object, where it is given, comes behind those that there are. Its name.
 fn add_side(firsts: &mut Vec<Known>, side: Option<[u64; 10]>) -> Result<Option<Name>, AllocError>
-    requires { length firsts.old.items < 2 ^ 32 }
-    ensures added { OnOk result (firsts.new.items
-        ≡ firsts.old.items ++ listed (version_of_side (length firsts.old.items) side)) }
-    ensures name { IfOk result (λ name. name ≡ name_of_side (length firsts.old.items) side) }
+    requires { length firsts.old.items < 4 }
+    ensures added { IfOk result (λ name. AddsSide firsts.old.items side name firsts.new.items) }
+    ensures few { OnOk result (length firsts.new.items ≤ length firsts.old.items + 1) }
 {
     let Some(numbers) = side else {
         return Ok(None);
