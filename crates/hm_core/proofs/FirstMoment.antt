@@ -1,54 +1,46 @@
 -- The moment that a fresh machine tells: it is fresh, and sound.
-use Rattle.std.proofs.Common.{◌≡◌, ◌<◌, ◌≤◌, ◌+◌, ◌-◌, ◌*◌, ◌==◌, ℕ, zero, suc, eq-eqb, ne_eqb, List, [], ◌∷◌, ◌++◌, length, map, get_or, set, take, replicate, Option, Some, None, IsSome, Contains, if◌then◌else◌, refl, sym, ap, ◌∙◌, subst, arith, ⊎_elim}
+use Rattle.std.proofs.Common.{◌≡◌, ◌≢◌, ◌<◌, ◌≤◌, ◌+◌, ◌-◌, ◌*◌, ◌==◌, ℕ, zero, suc, eq-eqb, ne_eqb, List, [], ◌∷◌, ◌++◌, length, map, get_or, set, take, replicate, Option, Some, None, if◌then◌else◌, refl, sym, ap, ◌∙◌, subst, arith, ⊎_elim, suc-mul}
 use Rattle.std.specs.Prelude.{slice_get}
+use Rattle.std.proofs.Math.Path.{fun_ext}
 use Rattle.std.proofs.lemmas.Nat.{mul-lt}
-use Rattle.std.proofs.lemmas.List.{length-append, length-map, length-replicate, length-set, map-append, get_or-replicate, take_more, take_all}
-use Rattle.std.proofs.lemmas.Option.{slice_get-get_or}
+use Rattle.std.proofs.lemmas.List.{length-append, length-map, length-replicate, length-set, map-append, get_or-replicate, get_or-set_same, get_or-set_other, take_all}
 use native.Mathlib.Decide.{ℕ_discrete}
 use mathlib.Core.Logic.{dite}
 use mathlib.Core.Option.{some}
 use lib.ListN.{get_elem?}
 use Rattle.hm_shape.specs.declared.shape.Shape.{Shape}
-use Rattle.hm_shape.specs.declared.version.Version.{Version}
 use Rattle.hm_shape.specs.Versions.{version_count}
 use Rattle.hm_model.specs.declared.object.Start.{Start}
 use Rattle.hm_model.specs.declared.entry.Entry.{Entry}
 use Rattle.hm_model.specs.declared.usage.AnyUsage.{AnyUsage}
-use Rattle.hm_model.specs.History.{opening_of, starting_count, IsSizedStart}
+use Rattle.hm_model.specs.History.{opening_of, starting_count}
 use Rattle.hm_moves.specs.declared.part.Known.{Known}
 use Rattle.hm_moves.specs.declared.part.Part.{Part}
 use Rattle.hm_moves.specs.declared.part.View.{View}
-use Rattle.hm_moves.specs.Chain.{Index, IsPublished, AreTrue, link_of, row_count, row_of}
-use Rattle.hm_moves.specs.Moving.{listed, nothing_written}
+use Rattle.hm_moves.specs.Chain.{Index, IsPublished, AreTrue, link_of}
+use Rattle.hm_moves.specs.Places.{HasHead, row_count}
 use Rattle.hm_moves.specs.Good.{Carries}
-use Rattle.hm_core.specs.Hands.{HandState}
-use Rattle.hm_core.specs.SeatStates.{SeatState}
-use Rattle.hm_core.specs.Running.{Moment, any_store, any_entry, site_of, index_of, known_all, known_from, hand_at, used_at, own_part, seat_view, core_of, IsSoundHand, IsSound}
-use Rattle.hm_moves.specs.Fresh.{common_known, all_known, fresh_index, fresh_part, IsFreshHeap, IsFreshCore}
-use Rattle.hm_core.specs.Firsts.{creates_of, first_words, first_seats}
-use Rattle.hm_moves.proofs.Fresh.{numbered, numbered_at, many, common_published, used_first, used_other, good_fresh}
-use Rattle.hm_moves.proofs.Held.{contains_first}
+use Rattle.hm_moves.specs.Fresh.{common_known, all_known, fresh_index, fresh_part, fresh_places, fresh_used, IsFreshHeap, IsFreshCore}
+use Rattle.hm_moves.specs.FirstWords.{AreFirst}
+use Rattle.hm_moves.proofs.Fresh.{numbered, numbered_at, many, used_first, used_other, good_fresh}
 use Rattle.hm_moves.proofs.Places.{at_end, at_below}
-use Rattle.hm_core.proofs.FirstWords.{opening_created, index_get, few, first_wide, first_true, first_links, used_get}
-
-abbrev pub first_hand : Shape → Start → HandState
-first_hand s start = record {
-  size = version_count s;
-  held = (common_known start).version ∷ [];
-  written =
-      nothing_written;
-}
+use Rattle.hm_core.specs.declared.machine.Row.{Row}
+use Rattle.hm_core.specs.SeatStates.{SeatState, no_seat}
+use Rattle.hm_core.specs.Hands.{HandState, fresh_hand, no_hand}
+use Rattle.hm_core.specs.Running.{Moment, any_store, any_entry, core_of, hand_at, index_of, no_row, own_part, places_of, row_at, seat_view, site_of, IsSound, IsSoundHand}
+use Rattle.hm_core.specs.Firsts.{creates_of, first_hands, first_rows, first_seats}
+use Rattle.hm_core.proofs.FirstVersions.{opening_created}
 
 -- what the fields of a fresh machine tell
-abbrev pub first_moment : Shape → Start → Moment
-first_moment s start = record {
+abbrev pub first_moment : Shape → Start → List ℕ → Moment
+first_moment s start words = record {
   shape = s;
   start = start;
-  words = first_words s (all_known start);
+  words = words;
   known = map Some (all_known start) ++ replicate (version_count s - length (all_known start)) None;
-  used = set (replicate (row_count s) 0) 0 (starting_count start);
+  rows = first_rows s (length (all_known start));
   history = opening_of start;
-  hands = replicate s.callers (first_hand s start);
+  hands = first_hands s (common_known start) (all_known start);
   seats = first_seats (length (opening_of start)) s.callers;
 }
 
@@ -59,16 +51,16 @@ seats_long seen (suc n) =
     let b = seats_long seen n in omega arith
 
 -- the seat at a place is that caller's
-seat_at : {B : Type 0} (f : SeatState → B) (seen n j : ℕ) (v : B) → get_elem? (map f (first_seats seen n)) j
+seat_of : {B : Type 0} (f : SeatState → B) (seen n j : ℕ) (v : B) → get_elem? (map f (first_seats seen n)) j
     ≡ some v
     → (j < n) × (f (record { seen = seen; parts = j ∷ [] }) ≡ v)
-seat_at f seen zero j v e = absurd (let low = at_below (map f (first_seats seen zero)) j v e in omega arith)
-seat_at f seen (suc n) j v e =
+seat_of f seen zero j v e = absurd (let low = at_below (map f (first_seats seen zero)) j v e in omega arith)
+seat_of f seen (suc n) j v e =
     let last : SeatState = record { seen = seen; parts = n ∷ [] } in
     let cut = map-append f (first_seats seen n) (last ∷ []) in
     let long : length (map f (first_seats seen n)) ≡ n = length-map (first_seats seen n) f
     ∙ seats_long seen n in
-    let before = seat_at f seen n j v in
+    let before = seat_of f seen n j v in
     ⊎_elim
     (λ (own : (j ≡ length (map f (first_seats seen n))) × (f last ≡ v)).
     let at : j ≡ n = own.0 ∙ long in
@@ -97,200 +89,207 @@ one_at : {A : Type 0} (x y : A) (k : ℕ) → get_elem? (x ∷ []) k ≡ some y 
 one_at x y zero e = (refl, cc)
 one_at x y (suc k) e = absurd (let low = at_below (x ∷ []) (suc k) y e in omega arith)
 
--- all versions are known from the first row
-known_take : (ms : List Known) (index : Index) → ((v : ℕ) → index v ≡ slice_get ms v) → (n : ℕ)
-    → n ≤ length ms
-    → known_from index 0 n ≡ take n ms
-known_take ms index is zero low = refl
-known_take ms index is (suc n) low =
-    let d : Known = record {
-      version = record { 0 = 0 };
-      name = record { maker = 0; count = 0 };
-      rank = 0;
-      contents = record { stamp = 0; refs = []; numbers = [] };
-    } in
-    let rest = known_take ms index is n (omega arith) in
-    let at : 0 + n ≡ n = omega arith in
-    let more : n + 1 ≡ suc n = omega arith in
-    let here : index (0 + n) ≡ Some (get_or ms n d) = ap index at
-    ∙ (is n ∙ slice_get-get_or ms n d (omega arith)) in
-    (λ i. rest i ++ listed (here i)) ∙ (sym (take_more ms n d (omega arith)) ∙ ap (λ (k : ℕ). take k ms) more)
+-- what is repeated is found, or else what stands for nothing
+repeated : {A : Type 0} (n v : ℕ) (a : A) → get_or (replicate n a) v a ≡ a
+repeated zero v a = refl
+repeated (suc n) zero a = refl
+repeated {A} (suc n) (suc v) a = repeated {A = A} n v a
 
-module _ (s : Shape) (start : Start) (sized : IsSizedStart start) (room : starting_count start ≤ s.versions)
+-- the index is told by the list of versions
+index_get : (xs : List Known) (n v : ℕ) → get_or (map Some xs ++ replicate n None) v None ≡ slice_get xs v
+index_get [] n v = repeated {A = Option Known} n v None
+index_get (x ∷ xs) n zero = refl
+index_get (x ∷ xs) n (suc v) = index_get xs n v
+
+-- a fresh caller writes into its first region
+first_to : (s : Shape) (common : Known) (own : List Known) (q : ℕ)
+    → (get_or (first_hands s common own) q no_hand).draft.region ≡ 0
+first_to s common own zero = refl
+first_to s common own (suc q) = go (s.callers - 1) q
   where
-    abbrev m : Moment
-    m = first_moment s start
+    go : (n v : ℕ) → (get_or (replicate n (fresh_hand s.versions common [])) v no_hand).draft.region ≡ 0
+    go zero v = refl
+    go (suc n) zero = refl
+    go (suc n) (suc v) = go n v
 
-    index_at : (v : ℕ) → index_of m.known v ≡ fresh_index start v
-    index_at v = index_get (all_known start) (version_count s - length (all_known start)) v
+versions_some : (r v : ℕ) → 0 < r → v ≤ r * v
+versions_some zero v low = absurd (omega arith)
+versions_some (suc r) v low = omega (arith, suc-mul r v)
 
-    index_is : index_of m.known ≡ fresh_index start
-    index_is = λ i v. index_at v i
+module _ (s : Shape) (start : Start) (words : List ℕ) (first : AreFirst s start words)
+    (room : starting_count start ≤ s.versions) where
+  abbrev m : Moment
+  m = first_moment s start words
 
-    fresh_heap : IsFreshHeap (site_of m) (core_of m).heap
-    fresh_heap = record {
-      wide = first_wide s start sized room;
-      index = index_is;
-      used = λ i row. used_get s start sized room row i;
-      history = refl;
-      contents = subst (AreTrue s m.words) (sym index_is) (first_true s start sized room);
-      links = subst (λ (x : Index). (k : Known) → IsPublished x k → link_of s m.words k ≡ 0) (sym index_is)
-          (first_links s start sized room);
-    }
+  index_is : index_of m.known ≡ fresh_index start
+  index_is = fun_ext (λ v. index_get (all_known start) (version_count s - length (all_known start)) v)
 
-    used_own : (q : ℕ) → used_at m q ≡ (if q == 0 then starting_count start else 0)
-    used_own q = used_get s start sized room (row_of s q 0) ∙ dite (ℕ_discrete q 0)
-        (λ e. rw (eq-eqb q 0 e) (used_first start sized (row_of s q 0)
-        (let at : q * s.regions ≡ 0 * s.regions = ap (λ (r : ℕ). r * s.regions) e in omega arith)))
-        (λ ne. rw (ne_eqb q 0 ne) (used_other start sized (row_of s q 0)
-        (λ z. let more = mul-lt 0 0 q s.regions (omega arith) (omega (arith, s.regions_fit)) in omega arith)))
+  some_rows : 0 < row_count s
+  some_rows = mul-lt 0 0 s.callers s.regions (omega (arith, s.callers_fit)) (omega (arith, s.regions_fit))
 
-    hand_own : (q : ℕ) → q < s.callers → hand_at m q ≡ first_hand s start
-    hand_own q low = get_or-replicate s.callers q (first_hand s start) _ low
+  few : length (all_known start) ≤ version_count s
+  few =
+      let long = many start first.sized in
+      let more = versions_some (row_count s) s.versions some_rows in omega arith
 
-    common_is : index_of m.known (common_known start).version.0 ≡ Some (common_known start)
-    common_is = index_at (common_known start).version.0 ∙ common_published start sized
+  abbrev full : Row
+  full = record { used = length (all_known start); made = length (all_known start); freed = 0 }
 
-    published_own : (q : ℕ) → known_from (index_of m.known) (row_of s q 0 * s.versions) (used_at m q)
-        ≡ (if q == 0 then all_known start else [])
-    published_own q = dite (ℕ_discrete q 0)
-        (λ e. rw (eq-eqb q 0 e) (
-        let row : row_of s q 0 ≡ 0 = ap (λ (r : ℕ). row_of s r 0) e ∙ omega arith in
-        let first : row_of s q 0 * s.versions ≡ 0 = ap (λ (r : ℕ). r * s.versions) row ∙ omega arith in
-        let count : used_at m q ≡ length (all_known start) = used_own q
-        ∙ (rw (eq-eqb q 0 e) (sym (many start sized))) in
-        (λ i. known_from (index_of m.known) (first i) (count i))
-        ∙ (known_take (all_known start) (index_of m.known) index_at (length (all_known start)) (omega arith)
-        ∙ take_all (length (all_known start)) (all_known start) (omega arith))))
-        (λ ne. rw (ne_eqb q 0 ne) (
-        let none : used_at m q ≡ 0 = used_own q ∙ (rw (ne_eqb q 0 ne) refl) in
-        ap (λ (n : ℕ). known_from (index_of m.known) (row_of s q 0 * s.versions) n) none))
+  row_first : (row : ℕ) → row ≡ 0 → row_at m.rows row ≡ full
+  row_first row e =
+      let some = some_rows in
+      let long : length (replicate {A = Row} (row_count s) no_row) ≡ row_count s =
+      length-replicate (row_count s) no_row in
+      ap (row_at m.rows) e ∙ get_or-set_same (replicate (row_count s) no_row) 0 full no_row (omega arith)
 
-    held_own : (q : ℕ) → q < s.callers → known_all (index_of m.known) (hand_at m q).held
-        ≡ common_known start ∷ []
-    held_own q low = ap (λ (h : HandState). known_all (index_of m.known) h.held) (hand_own q low)
-        ∙ ap (λ (o : Option Known). listed o ++ []) common_is
+  row_other : (row : ℕ) → row ≢ 0 → row_at m.rows row ≡ no_row
+  row_other row ne = get_or-set_other (replicate (row_count s) no_row) 0 row full no_row ne
+      ∙ repeated (row_count s) row no_row
 
-    part_is : (q : ℕ) → q < s.callers → own_part m q ≡ fresh_part (site_of m) q
-    part_is q low = λ i. record {
-      site = site_of m;
-      number = q;
-      draft = record { region = 0; used = used_own q i; written = (hand_own q low i).written };
-      hands = record { held = held_own q low i; published = published_own q i };
-      mine = (fresh_part (site_of m) q).mine;
-    }
+  -- a count that a row has as many as there are starting objects, and another none
+  counted : (f : Row → ℕ) → f full ≡ length (all_known start) → f no_row ≡ 0 → (row : ℕ)
+      → f (row_at m.rows row) ≡ fresh_used start row
+  counted f one none row = dite (ℕ_discrete row 0)
+      (λ e. ap f (row_first row e) ∙ (one ∙ (many start first.sized ∙ sym (used_first start first.sized row e))))
+      (λ ne. ap f (row_other row ne) ∙ (none ∙ sym (used_other start first.sized row ne)))
 
-    seen_is : take (length (opening_of start)) (opening_of start) ≡ opening_of start
-    seen_is = take_all (length (opening_of start)) (opening_of start) (omega arith)
+  never_freed : (row : ℕ) → (row_at m.rows row).freed ≡ 0
+  never_freed row = dite (ℕ_discrete row 0)
+      (λ e. ap (λ (r : Row). r.freed) (row_first row e))
+      (λ ne. ap (λ (r : Row). r.freed) (row_other row ne))
 
-    -- a view is of one caller, with its fresh part
-    record IsOwn (j k : ℕ) (v : View AnyUsage) (p : Part AnyUsage) : Type 0 where
-      low : j < s.callers
-      place : k ≡ 0
-      seen : v.seen ≡ opening_of start
-      is : own_part m j ≡ p
+  places_are : places_of m ≡ fresh_places start
+  places_are = λ i. record {
+    used = λ row. counted (λ r. r.used) refl refl row i;
+    made = λ row. counted (λ r. r.made) refl refl row i;
+    freed = λ row. never_freed row i;
+    to = λ q. first_to s (common_known start) (all_known start) q i;
+  }
 
-    own : (j k : ℕ) (v : View AnyUsage) (p : Part AnyUsage) → Carries (core_of m).views j k v p → IsOwn j k v
-        p
-    own j k v p at =
-        let a = seat_at (seat_view m) (length (opening_of start)) s.callers j v at.seat in
-        let b = one_at (own_part m j) p k (ap (λ (w : View AnyUsage). get_elem? w.parts k) a.1 ∙ at.place) in
-        record {
-          low = a.0;
-          place = b.0;
-          seen = ap (λ (w : View AnyUsage). w.seen) (sym a.1) ∙ seen_is;
-          is =
-              b.1;
-        }
+  fresh_heap : IsFreshHeap (site_of m) (core_of m).heap
+  fresh_heap = record {
+    wide = first.wide;
+    index = index_is;
+    places = places_are;
+    head = subst (λ (to : ℕ → ℕ). HasHead s to words)
+        (sym (fun_ext (first_to s (common_known start) (all_known start)))) first.head;
+    history = refl;
+    contents = subst (AreTrue s words) (sym index_is) first.contents;
+    links = subst (λ (x : Index). (k : Known) → IsPublished x k → link_of s words k ≡ 0) (sym index_is)
+        first.links;
+  }
 
-    pub first_fresh : IsFreshCore (site_of m) (core_of m)
-    first_fresh = record {
-      heap = fresh_heap;
-      seen = λ j v at. let a = seat_at (seat_view m) (length (opening_of start)) s.callers j v at in
-          ap (λ (w : View AnyUsage). w.seen) (sym a.1) ∙ seen_is;
-      parts = λ j k v p at.
-          let o = own j k v p at in
-          let low = o.low in
-          let number : j ≡ p.number = ap (λ (q : Part AnyUsage). q.number) o.is in
-          (omega arith, sym o.is ∙ (part_is j o.low ∙ ap (fresh_part (site_of m)) number));
-      apart = λ j k i n v w p q a b same.
-          let x = own j k v p a in
-          let y = own i n w q b in
-          let first : j ≡ p.number = ap (λ (z : Part AnyUsage). z.number) x.is in
-          let second : i ≡ q.number = ap (λ (z : Part AnyUsage). z.number) y.is in
-          let at = x.place in let there = y.place in (omega arith, omega arith);
-    }
+  hand_own : (q : ℕ) → suc q < s.callers → hand_at m (suc q) ≡ fresh_hand s.versions (common_known start) []
+  hand_own q low = get_or-replicate (s.callers - 1) q (fresh_hand s.versions (common_known start) []) no_hand
+      (omega arith)
 
-    first_hands : (q : ℕ) → q < s.callers → IsSoundHand m (hand_at m q)
-    first_hands q low = subst (IsSoundHand m) (sym (hand_own q low)) (record {
-      size = refl;
-      held = λ v there. ⊎_elim
-          (λ (e : (common_known start).version ≡ v).
-          subst (λ (w : Version). IsSome (index_of m.known w.0)) e (rw common_is refl))
-          (λ (c : Contains [] v). let none = c.1 in absurd (omega arith))
-          (contains_first v (common_known start).version [] there);
-      few = omega arith;
-    })
+  part_is : (q : ℕ) → q < s.callers → own_part m q ≡ fresh_part (site_of m) q
+  part_is zero low = λ i. record (own_part m 0) {
+    draft = record (own_part m 0).draft { used = many start first.sized i };
+  }
+  part_is (suc q) low =
+      let bare : Part AnyUsage = record (own_part m (suc q)) {
+        draft = (fresh_hand s.versions (common_known start) []).draft;
+        hands = (fresh_hand s.versions (common_known start) []).hands;
+      } in
+      let is : own_part m (suc q) ≡ bare = λ i. record (own_part m (suc q)) {
+        draft = (hand_own q low i).draft;
+        hands = (hand_own q low i).hands;
+      } in
+      let other : bare ≡ fresh_part (site_of m) (suc q) = rw (ne_eqb (suc q) 0 (λ z. omega arith)) refl in
+      is ∙ other
 
-    pub first_sound : IsSound m
-    first_sound = record {
-      good = good_fresh any_store any_entry (site_of m) sized room (core_of m) first_fresh tt;
-      known_size =
-          let a = length-append (map Some (all_known start))
-          (replicate {A = Option Known} (version_count s - length (all_known start)) None) in
-          let b = length-map (all_known start) (λ (k : Known). Some k) in
-          let c = length-replicate {A = Option Known} (version_count s - length (all_known start)) None in
-          let d = few s start sized room in omega arith;
-      used_size = length-set (replicate {A = ℕ} (row_count s) 0) 0 (starting_count start)
-          ∙ length-replicate (row_count s) 0;
-      hands_size = length-replicate s.callers (first_hand s start);
-      seats_size = let long = seats_long (length (opening_of start)) s.callers in omega arith;
-      numbered = λ v k is.
-          let here : slice_get (all_known start) v ≡ Some k = sym (index_at v) ∙ is in
-          ap (λ (z : Known). z.version.0) (numbered_at 0 (all_known start) v k (numbered start sized) here).is
-          ∙ omega arith;
-      hands = first_hands;
-      seen = λ j. seats_bound (length (opening_of start)) s.callers (record { seen = 0; parts = [] })
-          (omega arith) j;
-    }
+  seen_is : take (length (opening_of start)) (opening_of start) ≡ opening_of start
+  seen_is = take_all (length (opening_of start)) (opening_of start) (omega arith)
+
+  -- a view is of one caller, with its fresh part
+  record IsOwn (j k : ℕ) (v : View AnyUsage) (p : Part AnyUsage) : Type 0 where
+    low : j < s.callers
+    place : k ≡ 0
+    is : own_part m j ≡ p
+
+  own : (j k : ℕ) (v : View AnyUsage) (p : Part AnyUsage) → Carries (core_of m).views j k v p → IsOwn j k v p
+  own j k v p at =
+      let a = seat_of (seat_view m) (length (opening_of start)) s.callers j v at.seat in
+      let b = one_at (own_part m j) p k (ap (λ (w : View AnyUsage). get_elem? w.parts k) a.1 ∙ at.place) in
+      record { low = a.0; place = b.0; is = b.1 }
+
+  pub first_fresh : IsFreshCore (site_of m) (core_of m)
+  first_fresh = record {
+    heap = fresh_heap;
+    seen = λ j v at. let a = seat_of (seat_view m) (length (opening_of start)) s.callers j v at in
+        ap (λ (w : View AnyUsage). w.seen) (sym a.1) ∙ seen_is;
+    parts = λ j k v p at.
+        let o = own j k v p at in
+        let low = o.low in
+        let number : j ≡ p.number = ap (λ (q : Part AnyUsage). q.number) o.is in
+        (omega arith, sym o.is ∙ (part_is j o.low ∙ ap (fresh_part (site_of m)) number));
+    apart = λ j k i n v w p q a b same.
+        let x = own j k v p a in
+        let y = own i n w q b in
+        let one : j ≡ p.number = ap (λ (z : Part AnyUsage). z.number) x.is in
+        let two : i ≡ q.number = ap (λ (z : Part AnyUsage). z.number) y.is in
+        let at = x.place in let there = y.place in (omega arith, omega arith);
+  }
+
+  hands_sound : (q : ℕ) → q < s.callers → IsSoundHand m (hand_at m q)
+  hands_sound zero low = record { region = omega (arith, s.regions_fit); room = refl; own = refl }
+  hands_sound (suc q) low = subst (IsSoundHand m) (sym (hand_own q low))
+      (record { region = omega (arith, s.regions_fit); room = refl; own = refl })
+
+  pub first_sound : IsSound m
+  first_sound = record {
+    good = good_fresh any_store any_entry (site_of m) first.sized room (core_of m) first_fresh tt;
+    known_size =
+        let a = length-append (map Some (all_known start))
+        (replicate {A = Option Known} (version_count s - length (all_known start)) None) in
+        let b = length-map (all_known start) (λ (k : Known). Some k) in
+        let c = length-replicate {A = Option Known} (version_count s - length (all_known start)) None in
+        let d = few in omega arith;
+    rows_size = length-set (replicate {A = Row} (row_count s) no_row) 0 full
+        ∙ length-replicate (row_count s) no_row;
+    hands_size =
+        let some = s.callers_fit in
+        let long : length (replicate {A = HandState} (s.callers - 1)
+        (fresh_hand s.versions (common_known start) [])) ≡ s.callers - 1 =
+        length-replicate (s.callers - 1) (fresh_hand s.versions (common_known start) []) in omega arith;
+    seats_size = let long = seats_long (length (opening_of start)) s.callers in omega arith;
+    numbered = λ v k is.
+        let here : slice_get (all_known start) v ≡ Some k =
+        sym (ap (λ (f : Index). f v) index_is) ∙ is in
+        ap (λ (z : Known). z.version.0) (numbered_at 0 (all_known start) v k (numbered start first.sized) here).is
+        ∙ omega arith;
+    hands = hands_sound;
+    seen = λ j. seats_bound (length (opening_of start)) s.callers no_seat (omega arith) j;
+  }
 
 -- the fields of a fresh machine tell it
-pub moment_is : (s : Shape) (start : Start) (firsts seconds thirds : List Known) (words used : List ℕ)
-    (known : List (Option Known)) (history : List Entry) (hands : List HandState) (seats : List SeatState)
-    (count seen : ℕ)
-    → firsts ≡ all_known start → seconds ≡ all_known start → thirds ≡ all_known start → words
-    ≡ first_words s firsts
-    → known ≡ map Some seconds ++ replicate (version_count s - length seconds) None → count
-    ≡ starting_count start
-    → used ≡ set (replicate (row_count s) 0) 0 count → history ≡ creates_of thirds
-    → hands ≡ replicate s.callers
-    (record { size = version_count s; held = record { 0 = count - 1 } ∷ []; written = nothing_written })
+pub moment_is : (s : Shape) (start : Start) (firsts : List Known) (common : Known)
+    (words : List ℕ) (rows : List Row) (known : List (Option Known)) (history : List Entry)
+    (hands : List HandState) (seats : List SeatState) (count seen : ℕ)
+    → firsts ≡ all_known start → known ≡ map Some firsts ++ replicate (version_count s - length firsts) None
+    → history ≡ creates_of firsts → count ≡ length firsts → rows ≡ first_rows s count
+    → common ≡ common_known start → hands ≡ first_hands s common firsts
     → seats ≡ first_seats seen s.callers → seen ≡ length history
     → record {
       shape = s;
       start = start;
       words = words;
       known = known;
-      used = used;
-      history =
-          history;
+      rows = rows;
+      history = history;
       hands = hands;
       seats = seats;
-    }
-    ≡ first_moment s start
-moment_is s start firsts seconds thirds words used known history hands seats count seen a b c w k n u h l t
-    e =
-    let told : history ≡ opening_of start = h ∙ (ap creates_of c ∙ opening_created start) in
-    let common : count - 1 ≡ (common_known start).version.0 = omega arith in
+    } ≡ first_moment s start words
+moment_is s start firsts common words rows known history hands seats count seen a k h n r last l t e =
+    let told : history ≡ opening_of start = h ∙ (ap creates_of a ∙ opening_created start) in
     λ i. record {
       shape = s;
       start = start;
-      words = (w ∙ ap (first_words s) a) i;
-      known = (k ∙ ap (λ (ks : List Known). map Some ks ++ replicate (version_count s - length ks) None) b) i;
-      used = (u ∙ ap (λ (j : ℕ). set (replicate (row_count s) 0) 0 j) n) i;
+      words = words;
+      known = (k ∙ ap (λ (ks : List Known). map Some ks ++ replicate (version_count s - length ks) None) a) i;
+      rows = (r ∙ ap (first_rows s) (n ∙ ap length a)) i;
       history = told i;
-      hands = (l ∙ ap (λ (j : ℕ). replicate s.callers
-          (record { size = version_count s; held = record { 0 = j } ∷ []; written = nothing_written }))
-          common) i;
+      hands = (l ∙ (λ j. first_hands s (last j) (a j))) i;
       seats = (t ∙ ap (λ (j : ℕ). first_seats j s.callers) (e ∙ ap length told)) i;
     }

@@ -1,17 +1,22 @@
+-- lists of steps
 pub mod Played
-pub mod Stepping
+-- a hand: tests of its versions, and the words of its draft
+pub mod HeldTests
+pub mod DraftWords
+-- seats, callers and versions of the running machine, as the state has them
 pub mod Moments
-pub mod HeldFacts
-pub mod Looking
 pub mod Seating
-pub mod HeldAfter
-pub mod Taken
-pub mod HandFacts
-pub mod CheckFacts
-pub mod TakingFacts
-pub mod Released
-pub mod Leading
+-- the history with its plain store
 pub mod ChronicleFacts
-pub mod FirstFacts
-pub mod FirstWords
+-- the tests of a step's entry
+pub mod EntryTests
+-- a step that is taken: what it leaves, and that it leads on
+pub mod FieldsRead
+pub mod CallerChanged
+pub mod AfterMove
+pub mod MoveNeeds
+pub mod LetGo
+pub mod Leading
+-- a fresh machine
+pub mod FirstVersions
 pub mod FirstMoment

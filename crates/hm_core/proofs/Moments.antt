@@ -10,12 +10,19 @@ use Rattle.hm_model.specs.declared.usage.AnyUsage.{AnyUsage}
 use Rattle.hm_moves.specs.declared.part.Known.{Known}
 use Rattle.hm_moves.specs.declared.part.Part.{Part}
 use Rattle.hm_moves.specs.declared.part.View.{View}
-use Rattle.hm_moves.specs.Chain.{IsPublished, IsFit, row_count}
+use Rattle.hm_moves.specs.Chain.{IsPublished}
+use Rattle.hm_moves.specs.Places.{IsFit, row_count}
 use Rattle.hm_moves.specs.Good.{PartIsGood}
-use Rattle.hm_core.specs.Stepping.{IsAwake}
+use Rattle.hm_shape.specs.declared.version.Version.{Version}
+use Rattle.hm_model.specs.Store.{made_count}
+use Rattle.hm_model.specs.History.{store_of}
+use Rattle.hm_model.proofs.HistoryFacts.{made_count-legal}
+use Rattle.hm_moves.specs.Allowed.{MayLookInto, next_name}
+use Rattle.hm_core.specs.Stepping.{IsAwake, IsLookable}
 use Rattle.hm_core.specs.SeatStates.{SeatState}
-use Rattle.hm_core.specs.Running.{Moment, core_of, index_of, own_part, own_view, seat_view, site_of, IsSound}
-use Rattle.hm_moves.proofs.Placed.{total_small}
+use Rattle.hm_core.specs.Running.{Moment, core_of, index_of, own_part, own_view, places_of, seat_view, site_of, IsSound}
+use Rattle.hm_moves.proofs.Placed.{rank_small}
+use Rattle.hm_moves.proofs.Heaps.{look_published}
 
 module _ {A B : Type 0} (f : A → B) where
   -- what a list has at a place, its image has there
@@ -105,21 +112,36 @@ module _ (m : Moment) where
         subst (λ (n : ℕ). index_of m.known n ≡ Some k) (sym (sound.numbered v k e)) e
 
     -- and fits
-    pub known_fit : (v : ℕ) (k : Known) → index_of m.known v ≡ Some k → IsFit m.shape k
+    pub known_fit : (v : ℕ) (k : Known) → index_of m.known v ≡ Some k → IsFit m.shape 0 k
     known_fit v k e =
         let placed = sound.good.heap.placed in
         let is = known_published v k e in
-        let low = placed.ranks k is in
-        let high = total_small (core_of m).heap.used (row_count m.shape) m.shape.versions placed.filled in
         record {
           version = placed.fits k is;
-          rank = omega arith;
+          rank = rank_small m.shape (index_of m.known) (places_of m) 0 placed sound.good.heap.ranked k is;
           sized = placed.sized k is;
         }
 
-    pub known_fits : (v : ℕ) (o : Option Known) → o ≡ index_of m.known v → IfSome o (IsFit m.shape)
+    pub known_fits : (v : ℕ) (o : Option Known) → o ≡ index_of m.known v → IfSome o (IsFit m.shape 0)
     known_fits v None e = tt
     known_fits v (Some k) e = known_fit v k (sym e)
+
+    -- what a caller may look into is known at its number
+    pub look_index : (q : ℕ) → IsAwake (core_of m) q (own_view m q) (own_part m q) → (k : Known)
+        → MayLookInto (own_part m q) k → index_of m.known k.version.0 ≡ Some k
+    look_index q awake k look =
+        look_published (core_of m).heap (own_view m q).seen (own_part m q) (part_good q awake) k look
+
+    -- a version that may be looked into by its number may be, as it is known
+    pub lookable_known : (q : ℕ) → IsAwake (core_of m) q (own_view m q) (own_part m q) → (v : Version)
+        → IsLookable (own_part m q) v → (k : Known) × (index_of m.known v.0 ≡ Some k)
+        × MayLookInto (own_part m q) k
+    lookable_known q awake v (k, look, is) =
+        (k, subst (λ (x : Version). index_of m.known x.0 ≡ Some k) is (look_index q awake k look), look)
+
+    -- the next object's count is that of the objects made
+    pub next_count : (q n : ℕ) → n ≡ made_count q (store_of m.history) → (next_name (own_part m q)).count ≡ n
+    next_count q n e = sym (made_count-legal q m.start m.history sound.good.heap.history.legal) ∙ sym e
 
 -- a word is missing exactly where it is past the Table
 pub word_past : (m : Moment) → IsSound m → (i : ℕ) (o : Option ℕ) → o ≡ slice_get m.words i

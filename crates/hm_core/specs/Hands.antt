@@ -1,74 +1,95 @@
--- What the running machine keeps of a caller: what it holds, and the written words of its next version.
-use Rattle.std.specs.Prelude.{◌≡◌, ◌≤◌, ◌<◌, ℕ, Bool, ◌==◌, not, if◌then◌else◌, List, [], ◌∷◌, ◌++◌, length, Option, Some, None, option_map, filter, false, slice_index_or}
-use Rattle.std.specs.List.{list_any}
+-- What the running machine keeps of a caller: its draft, and the versions that it may look into.
+use Rattle.std.specs.Prelude.{◌≡◌, ℕ, ◌+◌, ◌<◌, ◌≤◌, ◌^◌, List, [], ◌∷◌, ◌++◌, length, Option, None, IfSome, Contains}
 use Rattle.hm_shape.specs.declared.version.Version.{Version}
 use Rattle.hm_shape.specs.declared.version.TheConstants.{VERSION_WORDS}
 use Rattle.hm_moves.specs.declared.part.Known.{Known}
+use Rattle.hm_moves.specs.declared.part.Draft.{Draft}
+use Rattle.hm_moves.specs.declared.part.Hands.{Hands}
 use Rattle.hm_moves.specs.declared.part.TheConstants.{MOST_HELD}
+use Rattle.hm_moves.specs.declared.moving.Build.{Build}
+use Rattle.hm_moves.specs.declared.moving.Build.TheVariants.{StoreOwn}
 use Rattle.hm_moves.specs.declared.moving.Act.{Act}
-use Rattle.hm_moves.specs.declared.moving.Act.TheVariants.{LoadStamp, LoadReference, LoadNumber, LoadLink, StoreOwn, Publish, LinkStore}
+use Rattle.hm_moves.specs.declared.moving.Act.TheVariants.{Builds}
 use Rattle.hm_moves.specs.declared.moving.Move.{Move}
-use Rattle.hm_moves.specs.Moving.{unnamed, written_with}
+use Rattle.hm_moves.specs.Acts.{listed, publishes}
+use Rattle.hm_moves.specs.After.{count_of, draft_after, hands_after, nothing_written, unnamed, without}
 
--- a hand, over so many versions
+-- a hand is a draft and versions, with room for so many own ones
 pub record HandState : Type 0 where
-  pub size : ℕ
-  pub held : List Version
-  pub written : List (Option ℕ)
+  pub room : ℕ
+  pub draft : Draft
+  pub hands : Hands
 
--- two versions have one number
-abbrev pub is_number : Version → Version → Bool
-is_number v w = w.0 == v.0
+-- by its pieces
+abbrev pub hand_by : ℕ → ℕ → ℕ → List (Option ℕ) → List Known → List Known → List Known → HandState
+hand_by room region used written held own left = record {
+  room = room;
+  draft = record { region = region; used = used; written = written };
+  hands = record { held = held; own = own; left = left };
+}
 
--- a version that is let go leaves the held ones
-abbrev pub held_without : List Version → Option Version → List Version
-held_without held None = held
-held_without held (Some v) = filter (λ w. not (is_number v w)) held
+-- where no caller is, nothing is kept
+abbrev pub no_hand : HandState
+no_hand = hand_by 0 0 0 nothing_written [] [] []
 
--- a version that is found or published is held, once
-abbrev pub held_with : List Version → Option Version → List Version
-held_with held None = held
-held_with held (Some v) = if list_any (is_number v) held then held else held ++ v ∷ []
+-- there is memory for all held and all own versions, and one version's words
+pub record IsLaidOut (h : HandState) (for_held for_own : ℕ) : Type 0 where
+  pub held : MOST_HELD ≤ for_held
+  pub own : h.room ≤ for_own
+  pub words : length h.draft.written ≡ VERSION_WORDS
 
--- the table tells of each version whether it is held; there is memory for all, and one version's words
-pub record IsListed (held : List Version) (holds : List Bool) (written : List (Option ℕ))
-    (capacity : ℕ) : Type 0 where
-  pub told : (v : Version) → slice_index_or holds v.0 false ≡ list_any (is_number v) held
-  pub room : MOST_HELD ≤ capacity
-  pub words : length written ≡ VERSION_WORDS
+-- one of some versions has this number
+abbrev pub HasVersion : List Known → Version → Type 0
+HasVersion ks v = (k : Known) × Contains ks k × (k.version ≡ v)
 
--- a version is known with its number
-abbrev pub number_of : Option Known → Option Version
-number_of o = option_map (λ k. k.version) o
+-- a hand that holds other versions
+abbrev pub holding : HandState → List Known → HandState
+holding h held = record h { hands = record h.hands { held = held } }
 
--- a hand can take a version in where it is one of its numbers, and few are held
+-- or has other words written
+abbrev pub writing : HandState → List (Option ℕ) → HandState
+writing h written = record h { draft = record h.draft { written = written } }
+
+-- or has published one version more
+abbrev pub publishing : HandState → Option Known → HandState
+publishing h fresh = record h {
+  draft = record h.draft { used = h.draft.used + count_of fresh };
+  hands = record h.hands { own = h.hands.own ++ listed fresh };
+}
+
+-- one version more can be held
 abbrev pub CanHold : HandState → Known → Type 0
-CanHold h k = (k.version.0 < h.size) × (length h.held < MOST_HELD)
+CanHold h k = length h.hands.held < MOST_HELD
+
+-- and one more published
+abbrev pub CanPublish : HandState → Known → Type 0
+CanPublish h k = (length h.hands.own < h.room) × (h.draft.used + 1 < 2 ^ 32)
 
 -- an own word that is stored is one of a version's
 abbrev pub IsOwnWord : Act → Type 0
-IsOwnWord (LoadStamp at) = Unit {0}
-IsOwnWord (LoadReference at i) = Unit {0}
-IsOwnWord (LoadNumber at i) = Unit {0}
-IsOwnWord (LoadLink at want) = Unit {0}
-IsOwnWord (StoreOwn i word) = i < VERSION_WORDS
-IsOwnWord (Publish fresh) = Unit {0}
-IsOwnWord (LinkStore at fresh entry) = Unit {0}
+IsOwnWord (Builds (StoreOwn i word)) = i < VERSION_WORDS
+IsOwnWord act = Unit {0}
 
--- a hand after a move that found one version and published another
-abbrev pub hand_moved : HandState → Move → Option Known → Option Known → HandState
-hand_moved h m found fresh = record {
-  size = h.size;
-  held = held_with
-      (held_with (held_without h.held (number_of m.let_go)) (number_of found))
-      (number_of fresh);
-  written = unnamed m.let_go (written_with h.written m.act fresh);
+-- a hand can follow a move that found x, which names this version
+pub record CanFollow (h : HandState) (m : Move) (x : ℕ) (named : Option Known) : Type 0 where
+  pub found : IfSome named (CanHold h)
+  pub fresh : IfSome (publishes m.act x) (CanHold h)
+  pub room : IfSome (publishes m.act x) (CanPublish h)
+  pub one : IfSome named (λ k. publishes m.act x ≡ None)
+  pub word : IsOwnWord m.act
+
+-- and is then this
+abbrev pub hand_after : HandState → Move → ℕ → Option Known → HandState
+hand_after h m x found = record h {
+  draft = draft_after h.draft m x;
+  hands = hands_after h.hands m x found;
 }
 
--- and after a version is let go alone
-abbrev pub hand_without : HandState → Option Known → HandState
-hand_without h let_go = record {
-  size = h.size;
-  held = held_without h.held (number_of let_go);
-  written = unnamed let_go h.written;
-}
+-- a hand that lets go of a version alone
+abbrev pub hand_letting : HandState → Option Known → HandState
+hand_letting h let_go =
+    writing (holding h (without h.hands.held let_go)) (unnamed let_go h.draft.written)
+
+-- a fresh hand holds the common object's version, and has published these
+abbrev pub fresh_hand : ℕ → Known → List Known → HandState
+fresh_hand room common own = hand_by room 0 (length own) nothing_written (common ∷ []) own []

@@ -1,7 +1,6 @@
 -- The running machine: its plain data, and the moment of the heap that they tell.
-use Rattle.std.specs.Prelude.{◌≡◌, ℕ, zero, suc, ◌+◌, ◌*◌, ◌<◌, ◌≤◌, List, [], ◌∷◌, ◌++◌, length, map, take, slice_index, slice_index_or, slice_set, Option, Some, None, IsSome, Contains}
+use Rattle.std.specs.Prelude.{◌≡◌, ℕ, ◌+◌, ◌≤◌, ◌<◌, List, [], length, map, take, slice_index_or, slice_set, Option, Some, None}
 use Rattle.hm_shape.specs.declared.shape.Shape.{Shape}
-use Rattle.hm_shape.specs.declared.version.Version.{Version}
 use Rattle.hm_shape.specs.Versions.{version_count}
 use Rattle.hm_model.specs.declared.object.Start.{Start}
 use Rattle.hm_model.specs.declared.entry.Entry.{Entry}
@@ -12,12 +11,17 @@ use Rattle.hm_moves.specs.declared.part.Known.{Known}
 use Rattle.hm_moves.specs.declared.part.Site.{Site}
 use Rattle.hm_moves.specs.declared.part.Part.{Part}
 use Rattle.hm_moves.specs.declared.part.View.{View}
-use Rattle.hm_moves.specs.declared.part.TheConstants.{MOST_HELD}
-use Rattle.hm_moves.specs.Chain.{Index, row_count, row_of}
-use Rattle.hm_moves.specs.Moving.{listed, nothing_written, view}
+use Rattle.hm_moves.specs.Chain.{Index}
+use Rattle.hm_moves.specs.Places.{Places, row_count}
+use Rattle.hm_moves.specs.After.{count_of, view}
 use Rattle.hm_moves.specs.Good.{Core, Good}
-use Rattle.hm_core.specs.Hands.{HandState}
-use Rattle.hm_core.specs.SeatStates.{SeatState}
+use Rattle.hm_core.specs.declared.machine.Row.{Row}
+use Rattle.hm_core.specs.Hands.{HandState, no_hand}
+use Rattle.hm_core.specs.SeatStates.{SeatState, no_seat}
+
+-- nothing is counted of a row that is not there
+abbrev pub no_row : Row
+no_row = record { used = 0; made = 0; freed = 0 }
 
 -- the plain data of a machine
 pub record Moment : Type 0 where
@@ -27,8 +31,8 @@ pub record Moment : Type 0 where
   pub words : List ℕ
   -- what is known of the version of each number, where it is published
   pub known : List (Option Known)
-  -- how many places of each row are used
-  pub used : List ℕ
+  -- what is counted of each row
+  pub rows : List Row
   pub history : List Entry
   -- of each caller
   pub hands : List HandState
@@ -50,35 +54,36 @@ site_of m = record { usage = record {}; shape = m.shape; start = m.start }
 abbrev pub index_of : List (Option Known) → Index
 index_of known v = slice_index_or known v None
 
--- held versions are known by their numbers
-abbrev pub known_all : Index → List Version → List Known
-known_all index [] = []
-known_all index (v ∷ held) = listed (index v.0) ++ known_all index held
-
--- the published versions of a row are known from its first place on
-abbrev pub known_from : Index → ℕ → ℕ → List Known
-known_from index first zero = []
-known_from index first (suc n) = known_from index first n ++ listed (index (first + n))
-
 -- a caller has this hand
 abbrev pub hand_at : Moment → ℕ → HandState
-hand_at m q = slice_index_or m.hands q record { size = 0; held = []; written = nothing_written }
+hand_at m q = slice_index_or m.hands q no_hand
 
--- and so many used places of its region
-abbrev pub used_at : Moment → ℕ → ℕ
-used_at m q = slice_index m.used (row_of m.shape q 0)
+-- a seat is this
+abbrev pub seat_at : Moment → ℕ → SeatState
+seat_at m j = slice_index_or m.seats j no_seat
+
+-- of a row this is counted
+abbrev pub row_at : List Row → ℕ → Row
+row_at rows row = slice_index_or rows row no_row
+
+-- the places are told by the rows and the hands
+abbrev pub places_of : Moment → Places
+places_of m = record {
+  used = λ row. (row_at m.rows row).used;
+  made = λ row. (row_at m.rows row).made;
+  freed = λ row. (row_at m.rows row).freed;
+  to = λ q. (hand_at m q).draft.region;
+}
 
 -- what is kept of a caller
 abbrev pub own_part : Moment → ℕ → Part AnyUsage
 own_part m q = record {
   site = site_of m;
   number = q;
-  draft = record { region = 0; used = used_at m q; written = (hand_at m q).written };
-  hands = record {
-    held = known_all (index_of m.known) (hand_at m q).held;
-    published = known_from (index_of m.known) (row_of m.shape q 0 * m.shape.versions) (used_at m q);
-  };
-  mine = calls_of q m.history;
+  draft = (hand_at m q).draft;
+  hands = (hand_at m q).hands;
+  calls = record { mine = calls_of q m.history };
+  cycle = record {};
 }
 
 -- what a seat knows: the history that it has seen, and its callers
@@ -91,7 +96,7 @@ core_of m = record {
   heap = record {
     words = m.words;
     index = index_of m.known;
-    used = slice_index m.used;
+    places = places_of m;
     history = m.history;
   };
   views = map (seat_view m) m.seats;
@@ -99,34 +104,37 @@ core_of m = record {
 
 -- a caller's own seat has its number
 abbrev pub own_view : Moment → ℕ → View AnyUsage
-own_view m q = seat_view m (slice_index_or m.seats q record { seen = 0; parts = [] })
+own_view m q = seat_view m (seat_at m q)
 
--- a hand is sound where it holds published versions, few enough, and has the words of one version
+-- a hand is sound where it writes into a region, and has room for one own version at each of its places
 pub record IsSoundHand (m : Moment) (h : HandState) : Type 0 where
-  pub size : h.size ≡ version_count m.shape
-  pub held : (v : Version) → Contains h.held v → IsSome (index_of m.known v.0)
-  pub few : length h.held ≤ MOST_HELD
+  pub region : h.draft.region < m.shape.regions
+  pub room : h.room ≡ m.shape.versions
+  pub own : length h.hands.own ≡ h.draft.used
 
 -- the plain data are sound where the state that they tell is good, and the tables have their sizes
 pub record IsSound (m : Moment) : Type 0 where
   pub good : Good any_store any_entry (site_of m) (core_of m)
   pub known_size : length m.known ≡ version_count m.shape
-  pub used_size : length m.used ≡ row_count m.shape
+  pub rows_size : length m.rows ≡ row_count m.shape
   pub hands_size : length m.hands ≡ m.shape.callers
   pub seats_size : m.shape.callers ≤ length m.seats
   -- each version stands at its number
   pub numbered : (v : ℕ) (k : Known) → index_of m.known v ≡ Some k → k.version.0 ≡ v
   pub hands : (q : ℕ) → q < m.shape.callers → IsSoundHand m (hand_at m q)
   -- no seat has seen more than the history
-  pub seen : (j : ℕ) → (slice_index_or m.seats j record { seen = 0; parts = [] }).seen
-      ≤ length m.history
+  pub seen : (j : ℕ) → (seat_at m j).seen ≤ length m.history
 
 -- what is known once a version is published
 abbrev pub known_with : List (Option Known) → Option Known → List (Option Known)
 known_with known None = known
 known_with known (Some k) = slice_set known k.version.0 (Some k)
 
+-- and what is counted of its row
+abbrev pub row_with : Row → Option Known → Row
+row_with r o = record r { used = r.used + count_of o; made = r.made + count_of o }
+
 -- a seat has seen the whole history where an entry is made after so many
 abbrev pub seat_with : SeatState → ℕ → Option Entry → SeatState
 seat_with s count None = s
-seat_with s count (Some e) = record { seen = count + 1; parts = s.parts }
+seat_with s count (Some e) = record s { seen = count + 1 }

@@ -21,10 +21,10 @@ impl From<AllocError> for StepRefused {
 impl Machine {
     ghost use Rattle.std.specs.Prelude.{◌<◌, length};
     ghost use Rattle.hm_core.specs.declared.step.StepRefused.TheVariants.{Memory};
-    ghost use Rattle.hm_core.specs.Stepping.{seat_of as place_of};
-    ghost use Rattle.hm_core.specs.Running.{any_store, any_entry, core_of, index_of, site_of, IsSound};
+    ghost use Rattle.hm_core.specs.Stepping.{seat_of as place_of, IsAct};
+    ghost use Rattle.hm_core.specs.Running.{any_store, any_entry, core_of, site_of, IsSound};
     ghost use Rattle.hm_moves.specs.Safe.{Leads};
-    ghost use Rattle.hm_core.specs.Taking.{let_go_of as known_to_go, IsAct, IsAdmitted, IsRefusedFor, Moves, Takes};
+    ghost use Rattle.hm_core.specs.Taking.{let_go_of as known_to_go, Becomes, IsAdmitted, IsRefusedFor, Moves, Takes};
 
     /// Takes one step, and answers the word that was found: 0 for a StoreOwn, a Publish, a Split and a Meet.
     pub fn apply(&mut self, s: &Step) -> Result<u64, StepRefused>
@@ -35,6 +35,19 @@ impl Machine {
         ensures site { site_of self.new ≡ site_of self.old }
     {
         self.admit(s)?;
+        let word = self.carry_out(s)?;
+        Ok(word)
+    }
+
+    // What an admitted step makes. Without memory nothing changes.
+    fn carry_out(&mut self, s: &Step) -> Result<u64, AllocError>
+        requires below { s.now.caller < self.old.shape.callers }
+        requires admitted { IsAdmitted self.old s.now }
+        ensures becomes { IfOk result (λ word.
+            Becomes self.old self.new s.now word s.now.kind) }
+        ensures site { site_of self.new ≡ site_of self.old }
+        ensures unchanged { OnErr result (self.new ≡ self.old) }
+    {
         match s.kind {
             StepKind::Split => {
                 let let_go = self.let_go_of(s.let_go);
@@ -47,16 +60,13 @@ impl Machine {
                 self.meet(s.caller, seat, let_go)?;
                 Ok(0)
             }
-            _ => {
-                let word = self.move_word(s)?;
-                Ok(word)
-            }
+            _ => self.move_word(s),
         }
     }
 
     // What is known of a version that is let go.
     fn let_go_of(&self, let_go: Option<Version>) -> Option<Known>
-        ensures known { result ≡ known_to_go (index_of self.now.known) let_go }
+        ensures known { result ≡ known_to_go self.now let_go }
         ensures sound { IsSound self.now }
     {
         let _shape = &self.shape;

@@ -8,8 +8,9 @@ use crate::step::{Other, StepKind};
 use hm_shape::{VERSION_WORDS, Version};
 
 impl Machine {
-    ghost use Rattle.hm_moves.specs.Moving.{is_naming, Names};
-    ghost use Rattle.hm_moves.specs.Moving.{AreWrittenFrom};
+    ghost use Rattle.hm_moves.specs.After.{is_naming};
+    ghost use Rattle.hm_moves.specs.Allowed.{Names};
+    ghost use Rattle.hm_moves.specs.Allowed.{AreWrittenFrom};
     ghost use Rattle.hm_core.specs.Stepping.{IsAwake, IsAlone, MayMeet, HasSeat, IsHeld, HoldsWhatItNeeds, MayHoldMore, HasPlace, HasWords};
     ghost use Rattle.hm_core.specs.Running.{core_of, own_part, own_view};
 
@@ -83,20 +84,12 @@ impl Machine {
         ensures { IsTrue result ↔ (is_naming i ≡ true
             → Names (own_part self.now caller).hands.held word) }
     {
-        if !names_a_version(i) || word == 0 {
-            return true;
-        }
-        match self.named(word) {
-            Some(known) => self.holds(caller, known.version),
-            None => false,
-        }
+        !names_a_version(i) || self.hand(caller).names(word)
     }
 
     // Whether what a kind needs held is held, or may be looked into.
     pub(crate) fn holds_what_it_needs(&self, caller: u32, kind: &StepKind) -> bool
-        requires below { caller < self.now.shape.callers }
-        requires awake { IsAwake (core_of self.now) caller (own_view self.now caller)
-            (own_part self.now caller) }
+        requires { caller < self.now.shape.callers }
         ensures { IsTrue result ↔ HoldsWhatItNeeds (own_part self.now caller) kind.now }
     {
         match *kind {

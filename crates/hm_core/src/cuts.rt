@@ -1,15 +1,17 @@
 //! A move cut into the word that it moves, what that becomes, and what it makes and finds.
 ghost use Rattle.std.specs.Prelude.{◌≡◌, ◌+◌, ◌<◌, ◌^◌, length};
 ghost use Rattle.hm_model.specs.declared.entry.Entry.TheVariants.{Create};
-ghost use Rattle.hm_moves.specs.Moving.{word_of as moved_word, becomes as word_after, entry_of, publishes as published_by, finds as found_by, MayTake};
-ghost use Rattle.hm_moves.specs.Moving.{field_act as field_load};
+ghost use Rattle.hm_moves.specs.Acts.{word_of as moved_word, becomes as word_after, entry_of, publishes as published_by, finds as found_by, field_look as field_load};
+ghost use Rattle.hm_moves.specs.Acts.{build_word, looked_at, looked_word};
+ghost use Rattle.hm_moves.specs.Allowed.{IsWordOf, MayBuild, MayTake};
+ghost use Rattle.hm_shape.specs.declared.version.TheConstants.{VERSION_WORDS};
 ghost use Rattle.hm_core.specs.Stepping.{act_of as act_by, first_known as first_of, later_known as later_of, HasPlace};
 
 use crate::contents::{new_contents, with_all, with_field};
 use crate::machine::Machine;
 use crate::step::StepKind;
 use hm_model::{Entry, Tried};
-use hm_moves::{Act, Known};
+use hm_moves::{Act, Build, Known, Look};
 use hm_shape::{FIRST_NUMBER, FIRST_REFERENCE, LINK, STAMP, Version};
 
 // What the word that an act moves becomes, where this was found.
@@ -17,16 +19,16 @@ pub(crate) fn becomes(act: &Act, found: u64) -> u64
     ensures { result ≡ word_after act.now found }
 {
     match *act {
-        Act::StoreOwn { word, .. } => word,
-        Act::Publish { .. } => 0,
-        Act::LinkStore { fresh, .. } => {
+        Act::Looks(_) => found,
+        Act::Builds(Build::StoreOwn { word, .. }) => word,
+        Act::Builds(Build::Publish { .. }) => 0,
+        Act::Builds(Build::LinkStore { fresh, .. }) => {
             if found == 0 {
                 fresh.version.name()
             } else {
                 found
             }
         }
-        _ => found,
     }
 }
 
@@ -35,9 +37,9 @@ pub(crate) fn entry(act: &Act, caller: u32, found: u64) -> Option<Entry>
     ensures { result ≡ entry_of caller act.now found }
 {
     match *act {
-        Act::LoadLink { want, .. } if found == 0 => want,
-        Act::Publish { fresh } => Some(create_of(caller, &fresh)),
-        Act::LinkStore { entry, .. } if found == 0 => Some(entry),
+        Act::Looks(Look::LoadLink { want, .. }) if found == 0 => want,
+        Act::Builds(Build::Publish { fresh }) => Some(create_of(caller, &fresh)),
+        Act::Builds(Build::LinkStore { entry, .. }) if found == 0 => entry,
         _ => None,
     }
 }
@@ -47,8 +49,8 @@ pub(crate) fn publishes(act: &Act, found: u64) -> Option<Known>
     ensures { result ≡ published_by act.now found }
 {
     match *act {
-        Act::Publish { fresh } => Some(fresh),
-        Act::LinkStore { fresh, .. } if found == 0 => Some(fresh),
+        Act::Builds(Build::Publish { fresh }) => Some(fresh),
+        Act::Builds(Build::LinkStore { fresh, .. }) if found == 0 => Some(fresh),
         _ => None,
     }
 }
@@ -68,23 +70,38 @@ pub(crate) fn create_of(caller: u32, fresh: &Known) -> Entry
     }
 }
 
-// The act that loads word `i` of a version.
-fn field_act(at: Known, i: u32) -> Act
+// The load of word `i` of a version.
+fn field_look(at: Known, i: u32) -> Look
     requires { 0 < i }
     ensures { result ≡ field_load at i }
 {
     if i == STAMP {
-        Act::LoadStamp { at }
+        Look::LoadStamp { at }
     } else if i < FIRST_NUMBER {
-        Act::LoadReference {
+        Look::LoadReference {
             at,
             i: u64::from(i - FIRST_REFERENCE),
         }
     } else {
-        Act::LoadNumber {
+        Look::LoadNumber {
             at,
             i: u64::from(i - FIRST_NUMBER),
         }
+    }
+}
+
+// The version of which a load is, and which of its words.
+fn word_looked_at(look: &Look) -> (Version, u32)
+    requires { IsWordOf look.now }
+    ensures version { result.0 ≡ (looked_at look.now).version }
+    ensures word { result.1 ≡ looked_word look.now }
+    ensures below { result.1 < VERSION_WORDS }
+{
+    match *look {
+        Look::LoadStamp { at } => (at.version, STAMP),
+        Look::LoadReference { at, i } => (at.version, FIRST_REFERENCE + i as u32),
+        Look::LoadNumber { at, i } => (at.version, FIRST_NUMBER + i as u32),
+        Look::LoadLink { at, .. } => (at.version, LINK),
     }
 }
 
@@ -135,7 +152,6 @@ fn later_known(version: Version, at: &Known, entry: &Entry) -> Option<Known>
 impl Machine {
     ghost use Rattle.hm_model.specs.Store.{IsThere};
     ghost use Rattle.hm_model.specs.History.{store_of};
-    ghost use Rattle.hm_shape.specs.declared.version.TheConstants.{VERSION_WORDS};
     ghost use Rattle.hm_shape.specs.Versions.{IsVersionOf};
     ghost use Rattle.hm_shape.specs.Words.{word_at};
     ghost use Rattle.hm_core.specs.Stepping.{IsAwake};
@@ -148,25 +164,25 @@ impl Machine {
         ensures { result ≡ act_by (index_of self.now.known) (own_part self.now caller) kind.now }
     {
         match *kind {
-            StepKind::LoadField { v, i, .. } => Some(field_act(self.known(v)?, i)),
-            StepKind::LoadLink { v, entry, .. } => Some(Act::LoadLink {
+            StepKind::LoadField { v, i, .. } => Some(Act::Looks(field_look(self.known(v)?, i))),
+            StepKind::LoadLink { v, entry, .. } => Some(Act::Looks(Look::LoadLink {
                 at: self.known(v)?,
                 want: entry,
-            }),
-            StepKind::StoreOwn { i, word } => Some(Act::StoreOwn {
+            })),
+            StepKind::StoreOwn { i, word } => Some(Act::Builds(Build::StoreOwn {
                 i: u64::from(i),
                 word,
-            }),
-            StepKind::Publish { entry } => Some(Act::Publish {
+            })),
+            StepKind::Publish { entry } => Some(Act::Builds(Build::Publish {
                 fresh: first_known(self.next_version(caller), &entry)?,
-            }),
+            })),
             StepKind::LinkStore { v, entry } => {
                 let at = self.known(v)?;
-                Some(Act::LinkStore {
+                Some(Act::Builds(Build::LinkStore {
                     at,
                     fresh: later_known(self.next_version(caller), &at, &entry)?,
-                    entry,
-                })
+                    entry: Some(entry),
+                }))
             }
             StepKind::Split | StepKind::Meet { .. } => None,
         }
@@ -200,13 +216,28 @@ impl Machine {
     {
         let _shape = &self.shape;
         match *act {
-            Act::LoadStamp { at } => (at.version, STAMP),
-            Act::LoadReference { at, i } => (at.version, FIRST_REFERENCE + i as u32),
-            Act::LoadNumber { at, i } => (at.version, FIRST_NUMBER + i as u32),
-            Act::LoadLink { at, .. } => (at.version, LINK),
-            Act::LinkStore { at, .. } => (at.version, LINK),
-            Act::StoreOwn { i, .. } => (self.next_version(caller), i as u32),
-            Act::Publish { .. } => (self.next_version(caller), LINK),
+            Act::Looks(look) => word_looked_at(&look),
+            Act::Builds(build) => self.place_built(caller, &build),
+        }
+    }
+
+    // The version whose word a step moves that builds, and which of its words.
+    fn place_built(&self, caller: u32, build: &Build) -> (Version, u32)
+        requires caller { caller < self.now.shape.callers }
+        requires awake { IsAwake (core_of self.now) caller (own_view self.now caller)
+            (own_part self.now caller) }
+        requires may { MayBuild (IsThere (store_of self.now.history)) (λ e. Unit {0})
+            (own_part self.now caller) build.now }
+        ensures value { build_word (own_part self.now caller) build.now
+            ≡ word_at self.now.shape result.0 result.1 }
+        ensures version { IsVersionOf self.now.shape result.0 }
+        ensures word { result.1 < VERSION_WORDS }
+    {
+        let _shape = &self.shape;
+        match *build {
+            Build::LinkStore { at, .. } => (at.version, LINK),
+            Build::StoreOwn { i, .. } => (self.next_version(caller), i as u32),
+            Build::Publish { .. } => (self.next_version(caller), LINK),
         }
     }
 
@@ -214,10 +245,9 @@ impl Machine {
     pub(crate) fn finds(&self, act: &Act, found: u64) -> Option<Known>
         ensures { result ≡ found_by (index_of self.now.known) act.now found }
     {
-        match act {
-            Act::LoadReference { .. } | Act::LoadLink { .. } | Act::LinkStore { .. } => {
-                self.named(found)
-            }
+        match *act {
+            Act::Looks(Look::LoadReference { .. } | Look::LoadLink { .. })
+            | Act::Builds(Build::LinkStore { .. }) => self.named(found),
             _ => None,
         }
     }

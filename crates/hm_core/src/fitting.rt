@@ -15,10 +15,10 @@ use hm_shape::{FIRST_NUMBER, FIRST_REFERENCE, LINK, STAMP, Version};
 impl Machine {
     ghost use Rattle.hm_model.specs.History.{store_of};
     ghost use Rattle.hm_model.specs.Store.{IsSized, IsThere};
-    ghost use Rattle.hm_moves.specs.Chain.{IsFit};
-    ghost use Rattle.hm_moves.specs.Moving.{IsWritten, Spells, IsBuilt, AreKnown, IsKnownField, IsGiven, Reads, Turns, HasRoom};
-    ghost use Rattle.hm_core.specs.Stepping.{IsLookable, HoldsWhatItNeeds, HasPlace, IsPlain, Fits};
-    ghost use Rattle.hm_core.specs.Running.{core_of, own_part, IsSound};
+    ghost use Rattle.hm_moves.specs.Places.{IsFit};
+    ghost use Rattle.hm_moves.specs.Allowed.{IsWritten, Spells, IsBuilt, AreKnown, IsKnownField, IsGiven, Reads, Turns, HasRoom};
+    ghost use Rattle.hm_core.specs.Stepping.{IsAwake, IsLookable, HoldsWhatItNeeds, HasPlace, IsPlain, Fits};
+    ghost use Rattle.hm_core.specs.Running.{core_of, own_part, own_view, IsSound};
 
     // Whether each reference is none, or names an object that is there.
     fn are_there(&self, refs: &[Option<Name>; 4]) -> bool
@@ -117,13 +117,9 @@ impl Machine {
         ensures { IsTrue result ↔ ((w : ℕ) × (word ≡ Some w)
             × Spells (own_part self.now caller).hands.held w name) }
     {
-        match (word, name) {
-            (Some(word), None) => word == 0,
-            (Some(word), Some(name)) => match self.named(word) {
-                Some(known) => known.name == name && self.holds(caller, known.version),
-                None => false,
-            },
-            (None, _) => false,
+        match word {
+            Some(word) => self.hand(caller).spells(word, name),
+            None => false,
         }
     }
 
@@ -207,6 +203,8 @@ impl Machine {
     // own.
     fn hangs(&self, caller: u32, v: Version, entry: &Entry) -> bool
         requires caller { caller < self.now.shape.callers }
+        requires awake { IsAwake (core_of self.now) caller (own_view self.now caller)
+            (own_part self.now caller) }
         requires look { IsLookable (own_part self.now caller) v }
         requires room { HasRoom (own_part self.now caller) }
         ensures { IsTrue result
@@ -229,7 +227,7 @@ impl Machine {
     // What an entry of the caller's own turns the contents of a version into, where it stands there.
     fn turned(&self, caller: u32, at: &Known, entry: &Entry) -> Option<Contents>
         requires caller { caller < self.now.shape.callers }
-        requires fit { IsFit self.now.shape at.now }
+        requires fit { IsFit self.now.shape 0 at.now }
         ensures turned { IfSome result (λ x. Turns (IsThere (store_of self.now.history))
             (own_part self.now caller) at.now x entry.now) }
         ensures only { (x : Contents) → Turns (IsThere (store_of self.now.history))
@@ -269,6 +267,8 @@ impl Machine {
     // Whether what a load of a link may make reads the version.
     fn wants(&self, caller: u32, v: Version, want: Option<Entry>) -> bool
         requires caller { caller < self.now.shape.callers }
+        requires awake { IsAwake (core_of self.now) caller (own_view self.now caller)
+            (own_part self.now caller) }
         requires look { IsLookable (own_part self.now caller) v }
         ensures { (scan : Bool) → IsTrue result
             ↔ Fits (core_of self.now) (own_part self.now caller) (LoadLink v want scan) }
@@ -285,6 +285,8 @@ impl Machine {
     // Whether words and answer fit the entry and the version.
     pub(crate) fn fits(&self, caller: u32, kind: &StepKind) -> bool
         requires caller { caller < self.now.shape.callers }
+        requires awake { IsAwake (core_of self.now) caller (own_view self.now caller)
+            (own_part self.now caller) }
         requires needs { HoldsWhatItNeeds (own_part self.now caller) kind.now }
         requires place { HasPlace (own_part self.now caller) kind.now }
         ensures { IsTrue result ↔ Fits (core_of self.now) (own_part self.now caller) kind.now }
@@ -301,6 +303,8 @@ impl Machine {
     // A load of a field and a store of an own word fit.
     fn is_plain(&self, caller: u32, kind: &StepKind) -> bool
         requires caller { caller < self.now.shape.callers }
+        requires awake { IsAwake (core_of self.now) caller (own_view self.now caller)
+            (own_part self.now caller) }
         requires needs { HoldsWhatItNeeds (own_part self.now caller) kind.now }
         requires place { HasPlace (own_part self.now caller) kind.now }
         requires plain { IsPlain kind.now }

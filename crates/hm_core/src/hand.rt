@@ -1,165 +1,243 @@
-//! What the machine keeps of a caller: the versions that it holds, and the written words of its next version.
-ghost use Rattle.std.specs.Prelude.{◌≡◌, ◌<◌, [], ◌∷◌, length, Some, None, IfOk, slice_set, slice_index_or};
+//! What the machine keeps of a caller: its draft, and the versions that it may look into.
+ghost use Rattle.std.specs.Prelude.{◌≡◌, ◌≤◌, ◌<◌, ◌↔◌, ◌+◌, ◌^◌, ◌==◌, ◌&&◌, Some, None, IfOk, IfSome, IsTrue, Contains, length, slice_set, slice_index_or};
 ghost use Rattle.std.specs.List.{list_any};
 ghost use Rattle.hm_shape.specs.declared.version.TheConstants.{VERSION_WORDS};
 ghost use Rattle.hm_shape.specs.Words.{naming_word};
+ghost use Rattle.hm_model.specs.Store.{is_same};
 ghost use Rattle.hm_moves.specs.declared.part.Known.{Known};
-ghost use Rattle.hm_moves.specs.declared.part.TheConstants.{MOST_HELD};
-ghost use Rattle.hm_moves.specs.Moving.{is_naming, unless_named, unnamed};
+ghost use Rattle.hm_moves.specs.After.{is_naming, unless_named, unnamed};
 
-use crate::contents::put;
-use hm_moves::MOST_HELD;
+use crate::cuts::publishes;
+use hm_model::Name;
+use hm_moves::{Act, Build, Known, MOST_HELD, Move};
 use hm_shape::{FIRST_NUMBER, FIRST_REFERENCE, LINK, VERSION_WORDS, Version};
 use std::alloc::{AllocError, Global};
 use std::marker::Model;
 
-/// The versions that a caller holds, in a list and in a table, and its written words.
+/// A caller's draft, and the versions that it holds, published, and left behind. There is room for as many own ones
+/// as a region has places.
 #[derive(Drop)]
 pub(crate) struct Hand {
-    /// In order of holding.
-    held: Vec<Version>,
-    /// Whether the version of each number is held.
-    holds: Vec<bool>,
+    room: u32,
+    region: u32,
+    used: u32,
     written: [Option<u64>; 16],
+    held: Vec<Known>,
+    own: Vec<Known>,
+    left: Vec<Known>,
 }
 
 impl Model for Hand {
-    ghost use Rattle.std.specs.Prelude.{length, vec_capacity};
-    ghost use Rattle.hm_core.specs.Hands.{HandState, IsListed};
+    ghost use Rattle.std.specs.Prelude.{vec_capacity};
+    ghost use Rattle.hm_core.specs.Hands.{HandState, IsLaidOut, hand_by};
 
     ghost Value = { HandState };
 
-    ghost view = { λ h. record {
-      size = length h.holds.items;
-      held = h.held.items;
-      written = h.written;
-    } };
+    ghost view = { λ h. hand_by h.room h.region h.used h.written h.held.items h.own.items h.left.items };
 
-    ghost invariant = { λ h. IsListed h.held.items h.holds.items h.written (vec_capacity h.held) };
+    ghost invariant = { λ h. IsLaidOut
+        (hand_by h.room h.region h.used h.written h.held.items h.own.items h.left.items)
+        (vec_capacity h.held) (vec_capacity h.own) };
 }
 
 impl Hand {
-    ghost use Rattle.hm_core.specs.Hands.{HandState, is_number, held_with, held_without};
-    ghost use Rattle.hm_moves.specs.Moving.{unnamed, nothing_written};
+    ghost use Rattle.hm_core.specs.Hands.{HasVersion, CanHold, CanPublish, CanFollow, IsOwnWord, fresh_hand, hand_after, hand_letting, holding, writing, publishing};
+    ghost use Rattle.hm_moves.specs.Allowed.{Names, Spells};
+    ghost use Rattle.hm_moves.specs.After.{with_held, without, written_with};
 
-    /// A hand that holds one version of so many, with no word written.
-    pub fn new(alloc: Global, size: u32, first: Version) -> Result<Hand, AllocError>
-        requires { first.0 < size }
-        ensures { IfOk result (λ hand. hand
-            ≡ record { size = size; held = first ∷ []; written = nothing_written }) }
+    /// A hand that holds one version and has published these, with no word written.
+    pub fn new(alloc: Global, room: u32, common: Known, own: &[Known]) -> Result<Hand, AllocError>
+        requires { length own.now ≤ room }
+        ensures { IfOk result (λ hand. hand ≡ fresh_hand room common own.now) }
     {
         let mut held = Vec::with_capacity(alloc, MOST_HELD as usize)?;
-        held.push(first)?;
-        let mut holds = vec![in alloc; false; size as usize]?;
-        holds[first.0 as usize] = true;
+        held.push(common)?;
+        let mut published = Vec::with_capacity(alloc, room as usize)?;
+        published.extend_from_slice(own)?;
         Ok(Hand {
-            held,
-            holds,
+            room,
+            region: 0,
+            used: own.len() as u32,
             written: [None; 16],
+            held,
+            own: published,
+            left: Vec::new(alloc),
         })
     }
 
-    /// Whether the version is held.
-    pub fn holds(&self, v: Version) -> bool
-        ensures { result ≡ list_any (is_number v) self.now.held }
+    /// The region into which it writes.
+    pub fn region(&self) -> u32
+        ensures { result ≡ self.now.draft.region }
     {
-        matches!(self.holds.get(v.0 as usize), Some(true))
+        self.region
     }
 
-    /// How many versions are held.
-    pub fn count(&self) -> u64
-        ensures { result ≡ length self.now.held }
+    /// How many places of that region are used.
+    pub fn used(&self) -> u32
+        ensures { result ≡ self.now.draft.used }
     {
-        self.held.len() as u64
+        self.used
     }
 
     /// Word `i`, where it is written.
     pub fn word(&self, i: u32) -> Option<u64>
         requires { i < VERSION_WORDS }
-        ensures { result ≡ slice_index_or self.now.written i None }
+        ensures { result ≡ slice_index_or self.now.draft.written i None }
     {
         self.written[i as usize]
     }
 
-    /// The version is held from now on.
-    pub fn hold(&mut self, v: Version)
-        requires below { v.0 < self.old.size }
-        requires few { length self.old.held < MOST_HELD }
-        ensures { self.new ≡ record {
-          size = self.old.size;
-          held = held_with self.old.held (Some v);
-          written = self.old.written;
-        } }
+    /// How many versions are held.
+    pub fn count(&self) -> u64
+        ensures { result ≡ length self.now.hands.held }
     {
-        if self.holds(v) {
-            return;
+        self.held.len() as u64
+    }
+
+    /// Whether the version is held.
+    pub fn holds(&self, v: Version) -> bool
+        ensures { IsTrue result ↔ HasVersion self.now.hands.held v }
+    {
+        has_version(self.held.as_slice(), v)
+    }
+
+    /// Whether the version is an own one.
+    pub fn owns(&self, v: Version) -> bool
+        ensures { IsTrue result ↔ HasVersion self.now.hands.own v }
+    {
+        has_version(self.own.as_slice(), v)
+    }
+
+    /// Whether a word is 0 or names a held version.
+    pub fn names(&self, word: u64) -> bool
+        ensures { IsTrue result ↔ Names self.now.hands.held word }
+    {
+        word == 0 || names_one(self.held.as_slice(), word)
+    }
+
+    /// Whether a word spells a reference.
+    pub fn spells(&self, word: u64, name: Option<Name>) -> bool
+        ensures { IsTrue result ↔ Spells self.now.hands.held word name }
+    {
+        match name {
+            Some(name) => spells_one(self.held.as_slice(), word, name),
+            None => word == 0,
         }
-        self.held.push(v).unwrap();
-        self.holds[v.0 as usize] = true;
     }
 
-    /// The version is held no longer.
-    pub fn let_go(&mut self, v: Version)
-        ensures { self.new ≡ record {
-          size = self.old.size;
-          held = held_without self.old.held (Some v);
-          written = self.old.written;
-        } }
+    /// The hand after a move that found a word and the version that it names.
+    pub fn follow(&mut self, m: &Move, x: u64, found: Option<Known>)
+        requires { CanFollow self.old m.now x found }
+        ensures { self.new ≡ hand_after self.old m.now x found }
     {
-        self.held.retain(|w| w.0 != v.0);
-        put(self.holds.as_mut_slice(), v.0, false);
+        let fresh = publishes(&m.act, x);
+        self.leave(m.let_go);
+        self.take_in(found);
+        self.take_in(fresh);
+        self.list(fresh);
+        self.write_by(&m.act, fresh);
+        self.forget(m.let_go);
     }
 
-    /// Word `i` counts as written.
-    pub fn write(&mut self, i: u32, word: u64)
-        requires { i < VERSION_WORDS }
-        ensures { self.new ≡ record {
-          size = self.old.size;
-          held = self.old.held;
-          written = slice_set self.old.written i (Some word);
-        } }
+    /// The hand after a version is let go alone.
+    pub fn release(&mut self, let_go: Option<Known>)
+        ensures { self.new ≡ hand_letting self.old let_go }
     {
-        self.written[i as usize] = Some(word);
+        self.leave(let_go);
+        self.forget(let_go);
     }
 
-    /// No word counts as written.
-    pub fn renew(&mut self)
-        ensures { self.new ≡ record {
-          size = self.old.size;
-          held = self.old.held;
-          written = nothing_written;
-        } }
+    // A version that is let go leaves the held ones.
+    fn leave(&mut self, let_go: Option<Known>)
+        ensures { self.new ≡ holding self.old (without self.old.hands.held let_go) }
     {
-        self.written = [None; 16];
+        if let Some(gone) = let_go {
+            self.held.retain(|known| known.version.0 != gone.version.0);
+        }
     }
 
-    /// No word that names the version counts as written.
-    pub fn unname(&mut self, v: Version)
-        ensures { (k : Known) → k.version ≡ v → self.new ≡ record {
-          size = self.old.size;
-          held = self.old.held;
-          written = unnamed (Some k) self.old.written;
-        } }
+    // A version that is found or published is held, once.
+    fn take_in(&mut self, found: Option<Known>)
+        requires { IfSome found (CanHold self.old) }
+        ensures { self.new ≡ holding self.old (with_held self.old.hands.held found) }
     {
-        unname_all(&mut self.written, v.name());
+        if let Some(known) = found {
+            if !has_version(self.held.as_slice(), known.version) {
+                self.held.push(known).unwrap();
+            }
+        }
+    }
+
+    // A version that is published is an own one, and takes a place.
+    fn list(&mut self, fresh: Option<Known>)
+        requires { IfSome fresh (CanPublish self.old) }
+        ensures { self.new ≡ publishing self.old fresh }
+    {
+        if let Some(known) = fresh {
+            self.own.push(known).unwrap();
+            self.used += 1;
+        }
+    }
+
+    // An own word that is stored counts as written, and a version that is published leaves none.
+    fn write_by(&mut self, act: &Act, fresh: Option<Known>)
+        requires { IsOwnWord act.now }
+        ensures { self.new ≡ writing self.old (written_with self.old.draft.written act.now fresh) }
+    {
+        if fresh.is_some() {
+            self.written = [None; 16];
+        } else if let Act::Builds(Build::StoreOwn { i, word }) = *act {
+            self.written[i as usize] = Some(word);
+        }
+    }
+
+    // No word that names a version that is let go counts as written.
+    fn forget(&mut self, let_go: Option<Known>)
+        ensures { self.new ≡ writing self.old (unnamed let_go self.old.draft.written) }
+    {
+        if let Some(known) = let_go {
+            unname(&mut self.written, &known);
+        }
     }
 }
 
-// No word that is this name, and may name a version, counts as written.
-fn unname_all(written: &mut [Option<u64>; 16], name: u64)
-    ensures { (k : Known) → naming_word (Some k.version) ≡ name
-        → written.new ≡ unnamed (Some k) written.old }
+// Whether one of some versions has this number.
+fn has_version(list: &[Known], v: Version) -> bool
+    ensures { result ≡ list_any (λ k. k.version.0 == v.0) list.now }
+{
+    list.iter().any(|known| known.version.0 == v.0)
+}
+
+// Whether a word names one of some versions.
+fn names_one(list: &[Known], word: u64) -> bool
+    ensures { result ≡ list_any (λ k. naming_word (Some k.version) == word) list.now }
+{
+    list.iter().any(|known| known.version.name() == word)
+}
+
+// Whether a word names one of some versions, of this name.
+fn spells_one(list: &[Known], word: u64, name: Name) -> bool
+    ensures { result
+        ≡ list_any (λ k. (naming_word (Some k.version) == word) && is_same k.name name) list.now }
+{
+    list.iter()
+        .any(|known| known.version.name() == word && known.name == name)
+}
+
+// No word that names the version counts as written.
+fn unname(written: &mut [Option<u64>; 16], known: &Known)
+    ensures { written.new ≡ unnamed (Some known.now) written.old }
 {
     for i in 0..VERSION_WORDS {
-        written[i as usize] = unless_names(i, written[i as usize], name);
+        written[i as usize] = unless_names(i, written[i as usize], known);
     }
 }
 
-// Word `i`, where it is written and is not this name of a version.
-fn unless_names(i: u32, word: Option<u64>, name: u64) -> Option<u64>
-    ensures { (k : Known) → naming_word (Some k.version) ≡ name → result ≡ unless_named k i word }
+// Word `i`, where it is written and does not name the version.
+fn unless_names(i: u32, word: Option<u64>, known: &Known) -> Option<u64>
+    ensures { result ≡ unless_named known.now i word }
 {
-    if names_a_version(i) && word == Some(name) {
+    if names_a_version(i) && word == Some(known.version.name()) {
         None
     } else {
         word

@@ -21,8 +21,19 @@ impl From<AllocError> for Memory {
     }
 }
 
-/// A machine: the words of the Table, and what is known of versions, callers and seats. A version is found by
-/// its number, and an object by its name, in constant time.
+/// What is counted of a region.
+#[derive(Clone, Copy, Debug, PartialEq, Eq)]
+pub(crate) struct Row {
+    /// How many of its places are used now.
+    pub used: u32,
+    /// How many versions were ever published in it.
+    pub made: u64,
+    /// How often it was freed.
+    pub freed: u32,
+}
+
+/// A machine: the words of the Table, and what is known of versions, callers and seats. What is known of a version
+/// is found by its number, and an object by its name, in constant time.
 #[derive(Drop)]
 pub struct Machine {
     pub(crate) alloc: Global,
@@ -32,10 +43,10 @@ pub struct Machine {
     pub(crate) words: Vec<u64>,
     /// What is known of the version of each number, where it is published.
     pub(crate) known: Vec<Option<Known>>,
-    /// How many places of each region are used, the regions of all callers one behind another.
-    pub(crate) used: Vec<u32>,
+    /// What is counted of each region, those of all callers one behind another.
+    pub(crate) rows: Vec<Row>,
     pub(crate) chronicle: Chronicle,
-    /// Of each caller, what it holds and has written.
+    /// Of each caller, its draft, and what it may look into.
     pub(crate) hands: Vec<Hand>,
     /// The callers' seats, and behind them the notes.
     pub(crate) seats: Vec<Seat>,
@@ -57,10 +68,13 @@ impl Machine {
     ghost use Rattle.hm_shape.specs.Words.{word_count};
     ghost use Rattle.hm_model.specs.Store.{contents_of, IsThere};
     ghost use Rattle.hm_model.specs.History.{store_of};
-    ghost use Rattle.hm_moves.specs.Chain.{lookup, IsFit};
-    ghost use Rattle.hm_moves.specs.Moving.{next_version, next_name, HasRoom, HasHand};
-    ghost use Rattle.hm_core.specs.Stepping.{IsAwake, IsLookable, IsHeld};
-    ghost use Rattle.hm_core.specs.Running.{core_of, hand_at, index_of, own_part, own_view, site_of, used_at, IsSound};
+    ghost use Rattle.hm_moves.specs.Chain.{lookup};
+    ghost use Rattle.hm_moves.specs.Places.{IsFit};
+    ghost use Rattle.hm_moves.specs.Acts.{next_version};
+    ghost use Rattle.hm_moves.specs.After.{row_of_part};
+    ghost use Rattle.hm_moves.specs.Allowed.{next_name, HasRoom, HasHand};
+    ghost use Rattle.hm_core.specs.Stepping.{IsLookable, IsHeld};
+    ghost use Rattle.hm_core.specs.Running.{core_of, hand_at, index_of, own_part, site_of, IsSound};
     ghost use Rattle.hm_moves.specs.Safe.{IsSafe};
 
     /// The present plain store, in order of making.
@@ -123,7 +137,7 @@ impl Machine {
     // What is known of the version of a number.
     pub(crate) fn known(&self, v: Version) -> Option<Known>
         ensures known { result ≡ index_of self.now.known v.0 }
-        ensures fit { IfSome result (IsFit self.now.shape) }
+        ensures fit { IfSome result (IsFit self.now.shape 0) }
         ensures sound { IsSound self.now }
     {
         self.known.get(v.0 as usize).copied().flatten()
@@ -149,17 +163,13 @@ impl Machine {
         self.hand(caller).holds(v)
     }
 
-    // Whether a caller may look into a version: it holds it, or published it.
+    // Whether a caller may look into a version: it holds it, or it is its own.
     pub(crate) fn may_look_into(&self, caller: u32, v: Version) -> bool
-        requires below { caller < self.now.shape.callers }
-        requires awake { IsAwake (core_of self.now) caller (own_view self.now caller)
-            (own_part self.now caller) }
+        requires { caller < self.now.shape.callers }
         ensures { IsTrue result ↔ IsLookable (own_part self.now caller) v }
     {
-        match self.known(v) {
-            Some(_known) => v.owner(self.shape) == caller || self.holds(caller, v),
-            None => false,
-        }
+        let hand = self.hand(caller);
+        hand.holds(v) || hand.owns(v)
     }
 
     // Whether a caller may hold one version more.
@@ -170,12 +180,13 @@ impl Machine {
         self.hand(caller).count() < MOST_HELD
     }
 
-    // How many places of a caller's region are used.
-    pub(crate) fn used(&self, caller: u32) -> u32
+    // The row of the region into which a caller writes.
+    pub(crate) fn row_of(&self, caller: u32) -> u32
         requires { caller < self.now.shape.callers }
-        ensures { result ≡ used_at self.now caller }
+        ensures row { result ≡ row_of_part (own_part self.now caller) }
+        ensures below { result < length self.now.rows }
     {
-        self.used[(caller * self.shape.regions) as usize]
+        caller * self.shape.regions + self.hand(caller).region()
     }
 
     // Whether a place of the caller's region is left.
@@ -183,7 +194,7 @@ impl Machine {
         requires { caller < self.now.shape.callers }
         ensures { IsTrue result ↔ HasRoom (own_part self.now caller) }
     {
-        self.used(caller) < self.shape.versions
+        self.hand(caller).used() < self.shape.versions
     }
 
     // The next version of a caller.
@@ -192,7 +203,8 @@ impl Machine {
         requires room { HasRoom (own_part self.now caller) }
         ensures { result ≡ next_version (own_part self.now caller) }
     {
-        Version::at(self.shape, caller, 0, self.used(caller))
+        let hand = self.hand(caller);
+        Version::at(self.shape, caller, hand.region(), hand.used())
     }
 
     // Word `i` of a caller's next version, where it is written.

@@ -3,17 +3,19 @@ ghost use Rattle.std.specs.Prelude.{All, ◌≡◌, ◌+◌, ◌-◌, ◌^◌, �
 ghost use Rattle.hm_shape.specs.Versions.{version_count};
 ghost use Rattle.hm_model.specs.Effect.{new_contents as contents_of_new};
 ghost use Rattle.hm_model.specs.History.{AllStand, starting_count, starting_name as name_of_first};
-ghost use Rattle.hm_moves.specs.Chain.{row_count};
-ghost use Rattle.hm_moves.specs.Moving.{listed, nothing_written};
+ghost use Rattle.hm_moves.specs.Places.{row_count};
+ghost use Rattle.hm_moves.specs.Acts.{listed};
+ghost use Rattle.hm_moves.specs.After.{nothing_written};
 ghost use Rattle.hm_moves.specs.Fresh.{all_known, starting_known};
-ghost use Rattle.hm_core.specs.Firsts.{IsFreshMachine, IsWritable, creates_of, name_of_side, version_of_side, word_of_first, words_of_first, head_words, first_words, first_seats};
+ghost use Rattle.hm_core.specs.Firsts.{IsFreshMachine, AddsSide, creates_of, first_rows, first_hands, first_seats};
 
 use crate::chronicle::Chronicle;
 use crate::contents::new_contents;
 use crate::cuts::create_of;
 use crate::hand::Hand;
-use crate::machine::{Machine, Memory};
-use hm_moves::Known;
+use crate::machine::{Machine, Memory, Row};
+
+use hm_moves::{Known, first_words};
 use crate::seat::Seat;
 use hm_model::{Name, Start};
 use hm_shape::{Shape, Version};
@@ -27,13 +29,14 @@ impl Machine {
         ensures shape { IfOk result (λ machine. machine.shape ≡ shape) }
         ensures start { IfOk result (λ machine. machine.start ≡ start) }
     {
-        let count = start.objects();
-        let firsts = starting_versions(alloc, start)?;
-        let words = starting_words(alloc, shape, firsts.as_slice())?;
-        let known = starting_index(alloc, shape, firsts.as_slice())?;
-        let chronicle = starting_chronicle(alloc, shape.callers, firsts.as_slice())?;
-        let used = starting_use(alloc, shape, count)?;
-        let hands = starting_hands(alloc, shape, Version(count - 1))?;
+        let words = first_words(alloc, shape, start)?;
+        let versions = starting_versions(alloc, start)?;
+        let firsts = versions.as_slice();
+        let known = starting_index(alloc, shape, firsts)?;
+        let chronicle = starting_chronicle(alloc, shape.callers, firsts)?;
+        let rows = starting_rows(alloc, shape, firsts.len() as u32)?;
+        let common = firsts[firsts.len() - 1];
+        let hands = starting_hands(alloc, shape, common, firsts)?;
         let seats = starting_seats(alloc, shape.callers, chronicle.count())?;
         Ok(Machine {
             alloc,
@@ -41,7 +44,7 @@ impl Machine {
             start,
             words,
             known,
-            used,
+            rows,
             chronicle,
             hands,
             seats,
@@ -54,10 +57,13 @@ fn starting_versions(alloc: Global, start: Start) -> Result<Vec<Known>, AllocErr
     ensures { IfOk result (λ firsts. firsts.items ≡ all_known start) }
 {
     let mut firsts = Vec::with_capacity(alloc, start.objects() as usize)?;
-    let mut refs = [None; 4];
-    for i in 0..4usize {
-        refs[i] = add_side(&mut firsts, start.sides[i])?;
-    }
+    let [a, b, c, d] = start.sides;
+    let refs = [
+        add_side(&mut firsts, a)?,
+        add_side(&mut firsts, b)?,
+        add_side(&mut firsts, c)?,
+        add_side(&mut firsts, d)?,
+    ];
     let common = starting_version(firsts.len() as u32, refs, start.numbers);
     firsts.push(common)?;
     Ok(firsts)
@@ -65,10 +71,9 @@ fn starting_versions(alloc: Global, start: Start) -> Result<Vec<Known>, AllocErr
 
 // The version of a side object, where it is given, comes behind those that there are. Its name.
 fn add_side(firsts: &mut Vec<Known>, side: Option<[u64; 10]>) -> Result<Option<Name>, AllocError>
-    requires { length firsts.old.items < 2 ^ 32 }
-    ensures added { OnOk result (firsts.new.items
-        ≡ firsts.old.items ++ listed (version_of_side (length firsts.old.items) side)) }
-    ensures name { IfOk result (λ name. name ≡ name_of_side (length firsts.old.items) side) }
+    requires { length firsts.old.items < 4 }
+    ensures added { IfOk result (λ name. AddsSide firsts.old.items side name firsts.new.items) }
+    ensures few { OnOk result (length firsts.new.items ≤ length firsts.old.items + 1) }
 {
     let Some(numbers) = side else {
         return Ok(None);
@@ -97,68 +102,6 @@ fn starting_version(k: u32, refs: [Option<Name>; 4], numbers: [u64; 10]) -> Know
         name: starting_name(k),
         rank: 0,
         contents: new_contents(refs, numbers),
-    }
-}
-
-// The words before those of the versions: stage and replies are 0, and the first region of each caller is To.
-fn starting_head(alloc: Global, shape: Shape) -> Result<Vec<u64>, AllocError>
-    ensures { IfOk result (λ words. words.items ≡ head_words shape) }
-{
-    let callers = shape.callers as usize;
-    let mut words = vec![in alloc; 0; callers + 1]?;
-    words.resize(2 * callers + 1, 1)?;
-    Ok(words)
-}
-
-// The words of the Table. Behind those of the starting versions they are 0.
-fn starting_words(alloc: Global, shape: Shape, firsts: &[Known]) -> Result<Vec<u64>, AllocError>
-    requires few { length firsts.now ≤ shape.versions }
-    requires writable { All IsWritable firsts.now }
-    ensures { IfOk result (λ words. words.items ≡ first_words shape firsts.now) }
-{
-    let mut words = starting_head(alloc, shape)?;
-    for known in firsts {
-        words.extend_from_slice(&version_words(known))?;
-    }
-    words.resize(shape.word_count() as usize, 0)?;
-    Ok(words)
-}
-
-// The words of a starting version. A reference names the version of its object's number.
-fn version_words(known: &Known) -> [u64; 16]
-    requires { IsWritable known.now }
-    ensures { result ≡ words_of_first known.now }
-{
-    let [a, b, c, d] = known.contents.refs;
-    let [n0, n1, n2, n3, n4, n5, n6, n7, n8, n9] = known.contents.numbers;
-    [
-        0,
-        0,
-        reference_word(a),
-        reference_word(b),
-        reference_word(c),
-        reference_word(d),
-        n0,
-        n1,
-        n2,
-        n3,
-        n4,
-        n5,
-        n6,
-        n7,
-        n8,
-        n9,
-    ]
-}
-
-// The word that names the version of a starting object, or none.
-fn reference_word(name: Option<Name>) -> u64
-    requires { IfSome name (λ n. n.count + 1 < 2 ^ 64) }
-    ensures { result ≡ word_of_first name }
-{
-    match name {
-        Some(name) => name.count + 1,
-        None => 0,
     }
 }
 
@@ -198,24 +141,38 @@ fn starting_chronicle(
     Ok(chronicle)
 }
 
-// How many places of each region are used: of the first as many as there are starting objects.
-fn starting_use(alloc: Global, shape: Shape, count: u32) -> Result<Vec<u32>, AllocError>
-    ensures { IfOk result (λ used. used.items ≡ slice_set (replicate (row_count shape) 0) 0 count) }
+// What is counted of each region: in the first there are so many starting objects.
+fn starting_rows(alloc: Global, shape: Shape, count: u32) -> Result<Vec<Row>, AllocError>
+    ensures { IfOk result (λ rows. rows.items ≡ first_rows shape count) }
 {
-    let mut used = vec![in alloc; 0; (shape.callers * shape.regions) as usize]?;
-    used[0] = count;
-    Ok(used)
+    let bare = Row {
+        used: 0,
+        made: 0,
+        freed: 0,
+    };
+    let mut rows = vec![in alloc; bare; (shape.callers * shape.regions) as usize]?;
+    rows[0] = Row {
+        used: count,
+        made: u64::from(count),
+        freed: 0,
+    };
+    Ok(rows)
 }
 
-// Each caller holds the common object's version.
-fn starting_hands(alloc: Global, shape: Shape, common: Version) -> Result<Vec<Hand>, AllocError>
-    requires { common.0 < version_count shape }
-    ensures { IfOk result (λ hands. hands.items ≡ replicate shape.callers
-        (record { size = version_count shape; held = common ∷ []; written = nothing_written })) }
+// Each caller holds the common object's version, and the first caller published all.
+fn starting_hands(
+    alloc: Global,
+    shape: Shape,
+    common: Known,
+    firsts: &[Known],
+) -> Result<Vec<Hand>, AllocError>
+    requires { length firsts.now ≤ shape.versions }
+    ensures { IfOk result (λ hands. hands.items ≡ first_hands shape common firsts.now) }
 {
     let mut hands = Vec::new(alloc);
-    for _ in 0..shape.callers {
-        hands.push(Hand::new(alloc, shape.version_count(), common)?)?;
+    hands.push(Hand::new(alloc, shape.versions, common, firsts)?)?;
+    for _ in 1..shape.callers {
+        hands.push(Hand::new(alloc, shape.versions, common, &[])?)?;
     }
     Ok(hands)
 }

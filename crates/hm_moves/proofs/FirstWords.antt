@@ -31,13 +31,13 @@ pub none_laid : (before : List ℕ) (k : ℕ) → AreLaid before k [] [] before
 none_laid before k = record { laid = sym (append-nil before); names = refl }
 
 -- the first side object's version comes before those of the others
-first_known : (k : ℕ) (side : Option Numbers) (sides : List (Option Numbers))
+pub first_known : (k : ℕ) (side : Option Numbers) (sides : List (Option Numbers))
     → side_known k (side ∷ sides)
     ≡ side_known k (side ∷ []) ++ side_known (k + length (side_known k (side ∷ []))) sides
 first_known k None sides = let same : k ≡ k + 0 = omega arith in ap (λ (j : ℕ). side_known j sides) same
 first_known k (Some numbers) sides = refl
 
-first_name : (k : ℕ) (side : Option Numbers) (sides : List (Option Numbers))
+pub first_name : (k : ℕ) (side : Option Numbers) (sides : List (Option Numbers))
     → side_names k (side ∷ sides)
     ≡ side_names k (side ∷ []) ++ side_names (k + length (side_known k (side ∷ []))) sides
 first_name k None sides = let same : k ≡ k + 0 = omega arith in ap (λ (j : ℕ). None ∷ side_names j sides) same

@@ -1,5 +1,5 @@
 use Rattle.std.proofs.Common.{sym, ◌∙◌}
-use Rattle.hm_core.proofs.CheckFacts.{contents_iff}
+use Rattle.hm_core.proofs.EntryTests.{contents_iff}
 use Rattle.hm_core.proofs.fitting.is_same.Goals as goal
 
 pub returns : goal.returns

@@ -1,9 +1,8 @@
 -- So many hands hold the common object's version so far.
-use Rattle.std.proofs.Common.{◌≡◌, [], ◌∷◌, replicate}
-use Rattle.hm_shape.specs.Versions.{version_count}
-use Rattle.hm_moves.specs.Moving.{nothing_written}
+use Rattle.std.proofs.Common.{◌≡◌, ◌-◌, [], ◌∷◌, replicate}
+use Rattle.hm_core.specs.Hands.{fresh_hand}
 use Rattle.hm_core.proofs.starting.starting_hands.Given as goal
 
 abbrev pub invariant-loop : goal.invariant-loop
-invariant-loop l = l.hands.items ≡ replicate l.counter
-    (record { size = version_count l.shape; held = l.common ∷ []; written = nothing_written })
+invariant-loop l = l.hands.items ≡ fresh_hand l.shape.versions l.common l.firsts
+    ∷ replicate (l.counter - 1) (fresh_hand l.shape.versions l.common [])

@@ -1,19 +1,30 @@
--- One side object more.
-use Rattle.std.proofs.Common.{arith}
-use Rattle.hm_core.proofs.FirstFacts.{firsts_more, refs_more, few_more}
+-- The side objects are added one after another, then the common object.
+use Rattle.std.proofs.Common.{◌≡◌, ◌∷◌, ◌++◌, [], List, ℕ, Option, None, get_or, length, sym, subst, rules}
+use Rattle.hm_model.specs.Store.{Numbers, Refs}
+use Rattle.hm_model.specs.Effect.{new_contents}
+use Rattle.hm_moves.specs.declared.part.Known.{Known}
+use Rattle.hm_moves.specs.Fresh.{starting_known}
+use Rattle.hm_moves.proofs.Fresh.{sides_length}
+use Rattle.hm_moves.proofs.FirstWords.{four_sides}
+use Rattle.hm_core.proofs.FirstVersions.{AreAdded, all_added, none_added, one_added}
+use Rattle.hm_core.specs.Firsts.{AddsSide}
 use Rattle.hm_core.proofs.starting.starting_versions.Goals as goal
 
-pub loop-i-preserved : goal.loop-i-preserved
-loop-i-preserved c =
-    let sides = c.args.start.sides in
-    let four = c.objects.ensures.sized.four in
-    let h = c.loop-i.invariant in
-    record {
-      firsts = firsts_more sides c.loop-i.i (omega arith) c.loop-i.firsts.items h.firsts _
-          c.in_ok-refs.ensures.added;
-      refs = refs_more sides c.loop-i.i (omega arith) c.loop-i.firsts.items h.firsts c.loop-i.refs _ four
-          h.refs
-          c.in_ok-refs.ensures.name;
-      few = few_more sides c.loop-i.i (omega arith) c.loop-i.firsts.items h.firsts _
-          c.in_ok-refs.ensures.added h.few;
-    }
+pub returns : goal.returns
+returns c =
+    let after : List Known = c.add_side-4.new.firsts.items in
+    let four : length c.args.start.sides ≡ 4 = search rules in
+    let names : Refs = c.in_ok-add_side.field-0 ∷ c.in_ok-add_side-2.field-0 ∷ c.in_ok-add_side-3.field-0
+    ∷ c.in_ok-add_side-4.field-0 ∷ [] in
+    let sides : AreAdded [] c.args.start.sides names after =
+    subst (λ (sides : List (Option Numbers)). AreAdded [] sides names after)
+    (sym (four_sides c.args.start.sides four))
+    (one_added [] _ _ _ _ _ after
+    (subst (λ (l : List Known). AddsSide l (get_or c.args.start.sides 0 None) c.in_ok-add_side.field-0
+    c.add_side.new.firsts.items) c.in_ok-firsts.ensures.items
+    c.in_ok-add_side.ensures.added)
+    (one_added _ _ _ _ _ _ after c.in_ok-add_side-2.ensures.added
+    (one_added _ _ _ _ _ _ after c.in_ok-add_side-3.ensures.added
+    (one_added _ _ _ _ _ _ after c.in_ok-add_side-4.ensures.added (none_added after))))) in
+    all_added c.args.start names after c.push.new.self.items c.starting_version-common.result c.len.result sides
+    (search rules) (search rules) c.in_ok-push.ensures.items

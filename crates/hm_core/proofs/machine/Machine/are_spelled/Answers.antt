@@ -1,6 +1,6 @@
-use Rattle.std.proofs.Common.{◌+◌, ℕ, None, below_more, sym, ◌∙◌, get_or}
+use Rattle.std.proofs.Common.{◌+◌, ℕ, None, arith, below_more, sym, ◌∙◌, get_or}
 use Rattle.hm_shape.specs.declared.version.TheConstants.{FIRST_REFERENCE}
-use Rattle.hm_moves.specs.Moving.{IsWritten, Spells}
+use Rattle.hm_moves.specs.Allowed.{IsWritten, Spells}
 use Rattle.hm_core.specs.Running.{own_part}
 use Rattle.hm_core.proofs.machine.Machine.are_spelled.Goals as goal
 
@@ -11,3 +11,11 @@ loop-i-preserved c =
     below_more (λ (k : ℕ). (w : ℕ) × IsWritten p.draft.written (FIRST_REFERENCE + k) w × Spells p.hands.held w
     (get_or c.args.refs.now k None))
     c.loop-i.i c.loop-i.invariant (t.0, sym c.written-word.ensures ∙ t.1, t.2)
+
+pub returns-then-not-spells : goal.returns-then-not-spells
+returns-then-not-spells c = (
+  λ t. absurd (cc),
+  λ h.
+      let x = h c.loop-i.i (omega arith) in
+      sym c.if-not-spells.true ∙ c.spells.ensures.1 (x.0, c.written-word.ensures ∙ x.1, x.2),
+)

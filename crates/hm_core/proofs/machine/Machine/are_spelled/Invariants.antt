@@ -1,7 +1,7 @@
 use Rattle.std.proofs.Common.{◌<◌, ◌+◌, ℕ, None}
 use Rattle.std.specs.Prelude.{slice_index_or}
 use Rattle.hm_shape.specs.declared.version.TheConstants.{FIRST_REFERENCE}
-use Rattle.hm_moves.specs.Moving.{IsWritten, Spells}
+use Rattle.hm_moves.specs.Allowed.{IsWritten, Spells}
 use Rattle.hm_core.specs.Running.{own_part}
 use Rattle.hm_core.proofs.machine.Machine.are_spelled.Given as goal
 

@@ -2,10 +2,10 @@ use Rattle.std.proofs.Common.{◌≡◌, sym, ◌∙◌, subst}
 use Rattle.hm_model.specs.declared.object.Contents.{Contents}
 use Rattle.hm_model.specs.declared.entry.Entry.{Entry}
 use Rattle.hm_core.specs.declared.step.StepKind.TheVariants.{Publish}
-use Rattle.hm_moves.specs.Moving.{IsBuilt}
+use Rattle.hm_moves.specs.Allowed.{IsBuilt}
 use Rattle.hm_core.specs.Stepping.{Fits}
 use Rattle.hm_core.specs.Running.{core_of, own_part}
-use Rattle.hm_core.proofs.CheckFacts.{create_fits, fits_create}
+use Rattle.hm_core.proofs.EntryTests.{create_fits, fits_create}
 use Rattle.hm_core.proofs.machine.Machine.creates.Goals as goal
 
 pub returns-else-not-are_there : goal.returns-else-not-are_there
@@ -17,12 +17,12 @@ returns-else-not-are_there c =
     let Built : Contents → Type 0 = λ x. IsBuilt p.hands.held p.draft.written x in
     let F : Entry → Type 0 = λ e. Fits (core_of m) p (Publish e) in (
       λ h. subst F (sym c.in-Create.is)
-          (create_fits m c.is_built.ensures.sound c.args.caller c.requires.caller c.in-Create.q
+          (create_fits m c.args.caller c.in-Create.q
           c.in-Create.name c.in-Create.refs c.in-Create.numbers own c.requires.room name
           (c.are_there.ensures.0 c.if-not-are_there.false)
           (subst Built c.new_contents.ensures (c.is_built.ensures.built.0 h))),
       λ f.
-          let t = fits_create m c.is_built.ensures.sound c.args.caller c.requires.caller c.in-Create.q
+          let t = fits_create m c.args.caller c.in-Create.q
           c.in-Create.name c.in-Create.refs c.in-Create.numbers (subst F c.in-Create.is f) in
           c.is_built.ensures.built.1 (subst Built (sym c.new_contents.ensures) t.3),
     )

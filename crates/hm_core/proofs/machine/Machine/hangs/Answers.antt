@@ -1,9 +1,9 @@
 use Rattle.std.proofs.Common.{◌≡◌, Some, None, sym, ◌∙◌, subst, eqb}
 use Rattle.std.specs.Option.{option_eq}
 use Rattle.hm_model.specs.declared.object.Contents.{Contents}
-use Rattle.hm_moves.specs.Moving.{IsBuilt}
+use Rattle.hm_moves.specs.Allowed.{IsBuilt}
 use Rattle.hm_core.specs.Running.{own_part}
-use Rattle.hm_core.proofs.CheckFacts.{link_fits, fits_link, word_told, not_false}
+use Rattle.hm_core.proofs.EntryTests.{link_fits, fits_link, word_told, not_false}
 use Rattle.hm_core.proofs.machine.Machine.hangs.Goals as goal
 
 pub returns-else-ne : goal.returns-else-ne
@@ -13,12 +13,12 @@ returns-else-ne c =
     let link = word_told c.written.result 0 (not_false (option_eq eqb c.written.result (Some 0))
     (sym c.ne.ensures ∙ c.if-ne.false)) in
     let Built : Contents → Type 0 = λ x. IsBuilt p.hands.held p.draft.written x in (
-      λ h. link_fits m c.in-Some.ensures.sound c.args.caller c.requires.caller c.args.v c.in-Some.at
+      λ h. link_fits m c.args.caller c.in-Some.ensures.sound c.requires.awake c.args.v c.in-Some.at
           c.args.entry.now c.in-Some-turned.contents
           (sym c.in-Some.ensures.known) c.requires.look c.requires.room c.in-Some-turned.ensures.turned
           (sym c.written.ensures ∙ link) (c.is_built.ensures.built.0 h),
       λ f.
-          let t = fits_link m c.in-Some.ensures.sound c.args.caller c.requires.caller c.args.v c.in-Some.at
+          let t = fits_link m c.args.caller c.args.v c.in-Some.at
           c.args.entry.now (sym c.in-Some.ensures.known) f in
           let both : Some c.in-Some-turned.contents ≡ Some t.0 = c.in-Some-turned.ensures.only t.0 t.1 in
           let same : c.in-Some-turned.contents ≡ t.0 = cc in
@@ -30,7 +30,7 @@ returns-in-None-turned c =
     let m = c.args.self.now in (
       λ t. absurd (cc),
       λ f.
-          let t = fits_link m c.in-Some.ensures.sound c.args.caller c.requires.caller c.args.v c.in-Some.at
+          let t = fits_link m c.args.caller c.args.v c.in-Some.at
           c.args.entry.now (sym c.in-Some.ensures.known) f in
           let both : None ≡ Some t.0 = c.in-None-turned.ensures.only t.0 t.1 in
           absurd (cc),

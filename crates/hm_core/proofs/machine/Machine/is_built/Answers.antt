@@ -1,6 +1,6 @@
 use Rattle.std.proofs.Common.{Some, sym, ◌∙◌, eqb}
 use Rattle.std.specs.Option.{option_eq}
-use Rattle.hm_core.proofs.CheckFacts.{word_told, not_false}
+use Rattle.hm_core.proofs.EntryTests.{word_told, not_false}
 use Rattle.hm_core.proofs.machine.Machine.is_built.Goals as goal
 
 pub returns-clause-built : goal.returns-clause-built

@@ -1,63 +1,61 @@
 -- A fresh machine is sound.
-use Rattle.std.proofs.Common.{◌≡◌, List, length, All, refl, sym, ap, ◌∙◌, subst, arith, []}
+use Rattle.std.proofs.Common.{◌≡◌, ◌≤◌, ◌-◌, List, [], length, get_or, refl, sym, ap, ◌∙◌, subst, arith}
 use Rattle.hm_model.specs.declared.entry.Entry.{Entry}
 use Rattle.hm_model.specs.History.{AllStand}
 use Rattle.hm_model.proofs.Openings.{opening_stands}
-use Rattle.hm_moves.specs.declared.part.Known.{Known}
+use Rattle.hm_moves.specs.Fresh.{all_known}
+use Rattle.hm_moves.proofs.Fresh.{many}
 use Rattle.hm_core.specs.Running.{Moment, IsSound}
 use Rattle.hm_core.specs.Chronicles.{ChronicleState}
-use Rattle.hm_moves.specs.Fresh.{all_known}
-use Rattle.hm_core.specs.Firsts.{IsFreshMachine, IsWritable, creates_of}
-use Rattle.hm_moves.proofs.Fresh.{many}
+use Rattle.hm_core.specs.Firsts.{IsFreshMachine, creates_of}
+use Rattle.hm_core.proofs.FirstVersions.{common_last, opening_created}
 use Rattle.hm_core.proofs.FirstMoment.{first_sound, first_fresh, moment_is}
-use Rattle.hm_core.proofs.FirstWords.{first_writable, opening_created}
 use Rattle.hm_core.proofs.machine.Machine.new.Goals as goal
-
-pub starting_words-requires-clause-few : goal.starting_words-requires-clause-few
-starting_words-requires-clause-few c =
-    let firsts = ap length (c.as_slice.ensures.value ∙ c.in_ok-firsts.ensures) in
-    let long = many c.args.start c.objects-count.ensures.sized in omega arith
-
-pub starting_words-requires-clause-writable : goal.starting_words-requires-clause-writable
-starting_words-requires-clause-writable c =
-    subst (λ (l : List Known). All IsWritable l) (sym (c.as_slice.ensures.value ∙ c.in_ok-firsts.ensures))
-    (first_writable c.args.shape c.args.start c.objects-count.ensures.sized c.requires)
 
 pub starting_index-requires : goal.starting_index-requires
 starting_index-requires c =
-    let firsts = ap length (c.as_slice-2.ensures.value ∙ c.in_ok-firsts.ensures) in
-    let long = many c.args.start c.objects-count.ensures.sized in omega arith
+    let firsts = ap length (c.as_slice-firsts.ensures.value ∙ c.in_ok-versions.ensures) in
+    let long = many c.args.start c.in_ok-words.ensures.first.sized in omega arith
 
 pub starting_chronicle-requires-clause-stand : goal.starting_chronicle-requires-clause-stand
 starting_chronicle-requires-clause-stand c =
-    let firsts : c.as_slice-3.result.now ≡ all_known c.args.start = c.as_slice-3.ensures.value
-    ∙ c.in_ok-firsts.ensures in
+    let firsts : c.as_slice-firsts.result.now ≡ all_known c.args.start =
+    c.as_slice-firsts.ensures.value ∙ c.in_ok-versions.ensures in
     subst (λ (l : List Entry). AllStand [] l) (sym (ap creates_of firsts ∙ opening_created c.args.start))
-    (opening_stands c.args.start c.objects-count.ensures.sized)
+    (opening_stands c.args.start c.in_ok-words.ensures.first.sized)
+
+pub overflow_cast-firsts : goal.overflow_cast-firsts
+overflow_cast-firsts c =
+    let firsts = ap length (c.as_slice-firsts.ensures.value ∙ c.in_ok-versions.ensures) in
+    let long = many c.args.start c.in_ok-words.ensures.first.sized in
+    let few = c.args.shape.versions_fit in omega arith
+
+pub starting_hands-requires : goal.starting_hands-requires
+starting_hands-requires c =
+    let firsts = ap length (c.as_slice-firsts.ensures.value ∙ c.in_ok-versions.ensures) in
+    let long = many c.args.start c.in_ok-words.ensures.first.sized in omega arith
 
 pub invariant_of-result : goal.invariant_of-result
 invariant_of-result c =
-    let is = moment_is c.args.shape c.args.start _ _ _ _ _ _ _ _ _ _ _
-    (c.as_slice.ensures.value ∙ c.in_ok-firsts.ensures) (c.as_slice-2.ensures.value ∙ c.in_ok-firsts.ensures)
-    (c.as_slice-3.ensures.value ∙ c.in_ok-firsts.ensures) c.in_ok-words.ensures c.in_ok-known.ensures
-    c.objects-count.ensures.count c.in_ok-used.ensures
-    (ap (λ (z : ChronicleState). z.entries) c.in_ok-chronicle.ensures)
-    c.in_ok-hands.ensures c.in_ok-seats.ensures c.count.ensures in
+    let is = moment_is c.args.shape c.args.start c.as_slice-firsts.result.now _ _ _ _ _ _ _ _ _
+    (c.as_slice-firsts.ensures.value ∙ c.in_ok-versions.ensures) c.in_ok-known.ensures
+    (ap (λ (z : ChronicleState). z.entries) c.in_ok-chronicle.ensures) refl c.in_ok-rows.ensures
+    (common_last c.args.start c.as_slice-firsts.result.now _
+    (c.as_slice-firsts.ensures.value ∙ c.in_ok-versions.ensures)) c.in_ok-hands.ensures c.in_ok-seats.ensures c.count.ensures in
     record {
       sound = subst (λ (m : Moment). IsSound m) (sym is)
-          (first_sound c.args.shape c.args.start c.objects-count.ensures.sized c.requires);
+          (first_sound c.args.shape c.args.start _ c.in_ok-words.ensures.first c.requires);
       makers = ap (λ (z : ChronicleState). z.makers) c.in_ok-chronicle.ensures;
     }
 
 pub returns-clause-fresh : goal.returns-clause-fresh
 returns-clause-fresh c =
-    let is = moment_is c.args.shape c.args.start _ _ _ _ _ _ _ _ _ _ _
-    (c.as_slice.ensures.value ∙ c.in_ok-firsts.ensures) (c.as_slice-2.ensures.value ∙ c.in_ok-firsts.ensures)
-    (c.as_slice-3.ensures.value ∙ c.in_ok-firsts.ensures) c.in_ok-words.ensures c.in_ok-known.ensures
-    c.objects-count.ensures.count c.in_ok-used.ensures
-    (ap (λ (z : ChronicleState). z.entries) c.in_ok-chronicle.ensures)
-    c.in_ok-hands.ensures c.in_ok-seats.ensures c.count.ensures in
+    let is = moment_is c.args.shape c.args.start c.as_slice-firsts.result.now _ _ _ _ _ _ _ _ _
+    (c.as_slice-firsts.ensures.value ∙ c.in_ok-versions.ensures) c.in_ok-known.ensures
+    (ap (λ (z : ChronicleState). z.entries) c.in_ok-chronicle.ensures) refl c.in_ok-rows.ensures
+    (common_last c.args.start c.as_slice-firsts.result.now _
+    (c.as_slice-firsts.ensures.value ∙ c.in_ok-versions.ensures)) c.in_ok-hands.ensures c.in_ok-seats.ensures c.count.ensures in
     subst IsFreshMachine (sym is) record {
-      core = first_fresh c.args.shape c.args.start c.objects-count.ensures.sized c.requires;
+      core = first_fresh c.args.shape c.args.start _ c.in_ok-words.ensures.first c.requires;
       seats = refl;
     }

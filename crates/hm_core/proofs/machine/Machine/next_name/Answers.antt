@@ -3,7 +3,7 @@ use Rattle.hm_model.specs.declared.object.Name.{Name}
 use Rattle.hm_model.specs.Store.{made_count}
 use Rattle.hm_model.specs.History.{store_of}
 use Rattle.hm_core.specs.Running.{Moment, IsSound}
-use Rattle.hm_core.proofs.Looking.{next_count}
+use Rattle.hm_core.proofs.Moments.{next_count}
 use Rattle.hm_core.proofs.machine.Machine.next_name.Goals as goal
 
 pub returns : goal.returns

@@ -2,18 +2,18 @@ use Rattle.std.proofs.Common.{refl, Option, IfSome, sym, subst}
 use Rattle.hm_model.specs.declared.entry.Entry.{Entry}
 use Rattle.hm_model.specs.Store.{IsThere}
 use Rattle.hm_model.specs.History.{store_of}
-use Rattle.hm_moves.specs.Moving.{Reads}
+use Rattle.hm_moves.specs.Allowed.{Reads}
 use Rattle.hm_core.specs.Running.{own_part}
-use Rattle.hm_core.proofs.CheckFacts.{wants_fit}
+use Rattle.hm_core.proofs.EntryTests.{wants_fit}
 use Rattle.hm_core.proofs.machine.Machine.wants.Goals as goal
 
 pub returns-in-Some-want : goal.returns-in-Some-want
 returns-in-Some-want c scan =
     let m = c.args.self.now in
-    let t = wants_fit m c.in-Some.ensures.sound c.args.caller c.requires.caller c.args.v c.in-Some.at
+    let t = wants_fit m c.args.caller c.in-Some.ensures.sound c.requires.awake c.args.v c.in-Some.at
     c.args.want scan (sym c.in-Some.ensures.known) c.requires.look in
-    let P : Option Entry → Type 0 = λ o. IfSome o (λ e. Reads (IsThere (store_of m.history))
-    (own_part m c.args.caller) c.in-Some.at e) in (
+    let P : Option Entry → Type 0 = λ o. IfSome o (Reads (IsThere (store_of m.history))
+    (own_part m c.args.caller) c.in-Some.at) in (
       λ h. t.0 (subst P (sym c.in-Some-want.is) (c.reads.ensures.0 h)),
       λ f. c.reads.ensures.1 (subst P c.in-Some-want.is (t.1 f)),
     )
@@ -21,8 +21,8 @@ returns-in-Some-want c scan =
 pub returns-in-None-want : goal.returns-in-None-want
 returns-in-None-want c scan =
     let m = c.args.self.now in
-    let t = wants_fit m c.in-Some.ensures.sound c.args.caller c.requires.caller c.args.v c.in-Some.at
+    let t = wants_fit m c.args.caller c.in-Some.ensures.sound c.requires.awake c.args.v c.in-Some.at
     c.args.want scan (sym c.in-Some.ensures.known) c.requires.look in
-    let P : Option Entry → Type 0 = λ o. IfSome o (λ e. Reads (IsThere (store_of m.history))
-    (own_part m c.args.caller) c.in-Some.at e) in
+    let P : Option Entry → Type 0 = λ o. IfSome o (Reads (IsThere (store_of m.history))
+    (own_part m c.args.caller) c.in-Some.at) in
     (λ h. t.0 (subst P (sym c.in-None-want.is) tt), λ f. refl)

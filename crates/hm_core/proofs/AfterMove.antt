@@ -1,0 +1,298 @@
+-- The plain data after a move: they tell the state after it, and are sound.
+use Rattle.std.proofs.Common.{◌≡◌, ◌≢◌, ◌<◌, ◌≤◌, ◌+◌, ◌*◌, ◌==◌, ℕ, zero, suc, List, [], ◌∷◌, ◌++◌, length, map, take, set, Option, Some, None, IfSome, if◌then◌else◌, eq-eqb, ne_eqb, refl, sym, ap, ◌∙◌, subst, arith, append-nil, length-set, length-append, get_or-set_other, get_or-set_same}
+use Rattle.std.specs.Prelude.{slice_get, slice_index, slice_index_or, slice_set}
+use Rattle.std.proofs.Math.Path.{fun_ext}
+use Rattle.std.proofs.lemmas.List.{take-append-le, take_all, set-get_or}
+use Rattle.std.proofs.lemmas.Grind.{get_or-set_at}
+use Rattle.std.proofs.lemmas.Option.{slice_get_within}
+use native.Mathlib.Decide.{ℕ_discrete}
+use mathlib.Core.Logic.{dite}
+use Rattle.hm_shape.specs.declared.version.Version.{Version}
+use Rattle.hm_model.specs.declared.entry.Entry.{Entry}
+use Rattle.hm_model.specs.declared.usage.AnyUsage.{AnyUsage}
+use Rattle.hm_model.specs.Lawful.{UsageLaws}
+use Rattle.hm_model.specs.History.{calls_of}
+use Rattle.hm_moves.specs.declared.part.Known.{Known}
+use Rattle.hm_moves.specs.declared.part.Part.{Part}
+use Rattle.hm_moves.specs.declared.part.View.{View}
+use Rattle.hm_moves.specs.declared.moving.Move.{Move}
+use Rattle.hm_moves.specs.Chain.{Index}
+use Rattle.hm_moves.specs.Places.{Places, places_with, raised}
+use Rattle.hm_moves.specs.Acts.{becomes, entry_of, finds, listed, next_version, publishes, word_of}
+use Rattle.hm_moves.specs.After.{count_of, index_with, part_after, row_of_part, seen_after, view, view_after}
+use Rattle.hm_moves.specs.Allowed.{HasRoom, IsLawfulMove}
+use Rattle.hm_moves.specs.Good.{Core, Good, PartIsGood, applied}
+use Rattle.hm_moves.proofs.Histories.{IsBy, calls_after}
+use Rattle.hm_moves.proofs.Held.{some_more}
+use Rattle.hm_moves.proofs.Heaps.{next_small, row_below}
+use Rattle.hm_moves.proofs.Finding.{entry_by, next_now}
+use Rattle.hm_moves.proofs.Steps.{good_step}
+use Rattle.hm_core.specs.declared.machine.Row.{Row}
+use Rattle.hm_core.specs.Hands.{HandState, hand_after, no_hand}
+use Rattle.hm_core.specs.SeatStates.{SeatState, no_seat}
+use Rattle.hm_core.specs.Stepping.{IsAwake}
+use Rattle.hm_core.specs.Running.{Moment, any_store, any_entry, core_of, hand_at, index_of, known_with, no_row, own_part, own_view, places_of, row_at, row_with, seat_at, seat_view, seat_with, site_of, IsSound, IsSoundHand}
+use Rattle.hm_core.proofs.Moments.{part_good, awake_below}
+use Rattle.hm_core.proofs.CallerChanged.{own_there, seen_low, to_same, views_set}
+
+-- the machine's usage keeps the laws
+pub any_laws : (u : AnyUsage) → UsageLaws (any_store u) (any_entry u)
+any_laws u = record {
+  leaves = λ _ _ _. tt;
+  fetch = λ _ _ _ _ _ _. tt;
+  changed = λ _ _ _ _ _ _ _ _ _. tt;
+}
+
+-- what is known after one version more
+index_is : (known : List (Option Known)) (o : Option Known) → IfSome o (λ k. k.version.0 < length known)
+    → index_of (known_with known o) ≡ index_with (index_of known) o
+index_is known None low = refl
+index_is known (Some k) low = fun_ext (λ v. dite (ℕ_discrete v k.version.0)
+    (λ e. rw (eq-eqb v k.version.0 e) (get_or-set_at known k.version.0 v (Some k) None e low))
+    (λ ne. rw (ne_eqb v k.version.0 ne) (get_or-set_other known k.version.0 v (Some k) None ne)))
+
+abbrev IsNumbered : Index → Type 0
+IsNumbered ix = (v : ℕ) (k : Known) → ix v ≡ Some k → k.version.0 ≡ v
+
+numbered_with : (ix : Index) (o : Option Known) → IsNumbered ix → IsNumbered (index_with ix o)
+numbered_with ix None h v n e = h v n e
+numbered_with ix (Some k) h v n e = dite (ℕ_discrete v k.version.0)
+    (λ is.
+    let here : (if v == k.version.0 then Some k else ix v) ≡ Some k = rw (eq-eqb v k.version.0 is) refl in
+    let both : Some k ≡ Some n = sym here ∙ e in
+    let same : k ≡ n = cc in
+    ap (λ (z : Known). z.version.0) (sym same) ∙ sym is)
+    (λ ne.
+    let there : (if v == k.version.0 then Some k else ix v) ≡ ix v = rw (ne_eqb v k.version.0 ne) refl in
+    h v n (sym there ∙ e))
+
+known_long : (known : List (Option Known)) (o : Option Known) → length (known_with known o) ≡ length known
+known_long known None = refl
+known_long known (Some k) = length-set known k.version.0 (Some k)
+
+abbrev used_of : List Row → ℕ → ℕ
+used_of rows r = (row_at rows r).used
+
+abbrev made_of : List Row → ℕ → ℕ
+made_of rows r = (row_at rows r).made
+
+abbrev freed_of : List Row → ℕ → ℕ
+freed_of rows r = (row_at rows r).freed
+
+-- what is counted, where each caller writes into such a region
+abbrev places_by : List Row → (ℕ → ℕ) → Places
+places_by rows to = record { used = used_of rows; made = made_of rows; freed = freed_of rows; to = to }
+
+-- after one version more in a row
+places_is : (rows : List Row) (to : ℕ → ℕ) (row : ℕ) (o : Option Known) → row < length rows
+    → places_by (set rows row (row_with (row_at rows row) o)) to ≡ places_with (places_by rows to) row o
+places_is rows to row None low =
+    let old = row_at rows row in
+    let u : old.used + 0 ≡ old.used = omega arith in
+    let v : old.made + 0 ≡ old.made = omega arith in
+    let one : row_with old None ≡ old = λ i. record { used = u i; made = v i; freed = old.freed } in
+    ap (λ (l : List Row). places_by l to) (ap (λ (r : Row). set rows row r) one ∙ set-get_or rows row no_row)
+places_is rows to row (Some k) low =
+    let new = row_with (row_at rows row) (Some k) in
+    let here : (r : ℕ) → r ≡ row → row_at (set rows row new) r ≡ new =
+    λ r e. get_or-set_at rows row r new no_row e low in
+    let there : (r : ℕ) → r ≢ row → row_at (set rows row new) r ≡ row_at rows r =
+    λ r ne. get_or-set_other rows row r new no_row ne in
+    let used : used_of (set rows row new) ≡ raised (used_of rows) row = fun_ext (λ r. dite (ℕ_discrete r row)
+    (λ e. rw (eq-eqb r row e) (ap (λ (z : Row). z.used) (here r e)
+    ∙ ap (λ (j : ℕ). used_of rows j + 1) (sym e)))
+    (λ ne. rw (ne_eqb r row ne) (ap (λ (z : Row). z.used) (there r ne)))) in
+    let made : made_of (set rows row new) ≡ raised (made_of rows) row = fun_ext (λ r. dite (ℕ_discrete r row)
+    (λ e. rw (eq-eqb r row e) (ap (λ (z : Row). z.made) (here r e)
+    ∙ ap (λ (j : ℕ). made_of rows j + 1) (sym e)))
+    (λ ne. rw (ne_eqb r row ne) (ap (λ (z : Row). z.made) (there r ne)))) in
+    let freed : freed_of (set rows row new) ≡ freed_of rows = fun_ext (λ r. dite (ℕ_discrete r row)
+    (λ e. ap (λ (z : Row). z.freed) (here r e) ∙ ap (freed_of rows) (sym e))
+    (λ ne. ap (λ (z : Row). z.freed) (there r ne))) in
+    λ i. record { used = used i; made = made i; freed = freed i; to = to }
+
+-- an own version more takes a place more
+listed_more : (own : List Known) (used : ℕ) (o : Option Known) → length own ≡ used
+    → length (own ++ listed o) ≡ used + count_of o
+listed_more own used None is = let a = length-append own [] in omega arith
+listed_more own used (Some k) is = let a = length-append own (k ∷ []) in omega arith
+
+module _ (m : Moment) (q : ℕ) (mv : Move) where
+  abbrev p : Part AnyUsage
+  p = own_part m q
+
+  abbrev ix : Index
+  ix = index_of m.known
+
+  abbrev x : ℕ
+  x = slice_index m.words (word_of p mv.act)
+
+  abbrev found : Option Known
+  found = finds ix mv.act x
+
+  abbrev fresh : Option Known
+  fresh = publishes mv.act x
+
+  abbrev e : Option Entry
+  e = entry_of q mv.act x
+
+  abbrev row : ℕ
+  row = row_of_part p
+
+  abbrev hand : HandState
+  hand = hand_after (hand_at m q) mv x found
+
+  abbrev seat : SeatState
+  seat = seat_with (seat_at m q) (length m.history) e
+
+  -- the plain data after the move
+  abbrev pub after : Moment
+  after = record m {
+    words = slice_set m.words (word_of p mv.act) (becomes mv.act x);
+    known = known_with m.known fresh;
+    rows = slice_set m.rows row (row_with (row_at m.rows row) fresh);
+    history = m.history ++ listed e;
+    hands = slice_set m.hands q hand;
+    seats = slice_set m.seats q seat;
+  }
+
+  module _ (sound : IsSound m) (awake : IsAwake (core_of m) q (own_view m q) (own_part m q))
+      (may : IsLawfulMove any_store any_entry m.history (own_part m q) mv) where
+    mine : PartIsGood (site_of m) (core_of m).heap (own_view m q).seen p
+    mine = part_good m sound q awake
+
+    low : q < m.shape.callers
+    low = awake_below m sound q awake
+
+    below : q < length m.hands
+    below = let size = sound.hands_size in let a = low in omega arith
+
+    pub fresh_next : IfSome fresh (λ k. (k.version ≡ next_version p) × HasRoom p)
+    fresh_next = next_now any_store any_entry (core_of m).heap (own_view m q).seen p sound.good.heap mine _ _
+        mv.act may.act x
+
+    pub entry_own : IsBy q e
+    entry_own = entry_by any_store any_entry (core_of m).heap (own_view m q).seen p sound.good.heap mine _ _
+        mv.act may.act x
+
+    pub fresh_below : IfSome fresh (λ k. k.version.0 < length m.known)
+    fresh_below = some_more (λ (k : Known). (k.version ≡ next_version p) × HasRoom p)
+        (λ (k : Known). k.version.0 < length m.known)
+        (λ k h.
+        let small = next_small any_store any_entry (core_of m).heap (own_view m q).seen p sound.good.heap mine
+        h.1 in
+        let at : k.version.0 ≡ (next_version p).0 = ap (λ (v : Version). v.0) h.0 in
+        let size = sound.known_size in omega arith) fresh fresh_next
+
+    pub row_low : row < length m.rows
+    row_low =
+        let size = sound.rows_size in
+        let a = row_below (core_of m).heap (own_view m q).seen p mine in omega arith
+
+    hand_is : hand_at after q ≡ hand
+    hand_is = get_or-set_same m.hands q hand no_hand below
+
+    -- the caller's own part is that after the move
+    own_part_after : own_part after q ≡ part_after p mv x found
+    own_part_after =
+        let calls = calls_after q m.history (calls_of q m.history) e entry_own refl in
+        λ i. record {
+          site = site_of m;
+          number = q;
+          draft = (hand_is i).draft;
+          hands = (hand_is i).hands;
+          calls = record { mine = calls i };
+          cycle = record {};
+        }
+
+    own_seen : (o : Option Entry)
+        → take (seat_with (seat_at m q) (length m.history) o).seen (m.history ++ listed o)
+        ≡ seen_after (take (seat_at m q).seen m.history) m.history o
+    own_seen None = take-append-le (seat_at m q).seen m.history []
+        (seen_low m sound q awake q (seat_at m q) (own_there m sound q awake))
+    own_seen (Some f) = take_all (length m.history + 1) (m.history ++ f ∷ [])
+        (omega (arith, length-append m.history (f ∷ [])))
+
+    own_with : (o : Option Entry) → (seat_with (seat_at m q) (length m.history) o).parts ≡ (seat_at m q).parts
+    own_with None = refl
+    own_with (Some f) = refl
+
+    -- the plain data after the move tell the state after it
+    pub core_after : core_of after ≡ applied (core_of m) q 0 (own_view m q) p mv
+    core_after =
+        let to = to_same m.hands q hand below refl in
+        let places = places_is m.rows (places_of m).to row fresh row_low in
+        let index = index_is m.known fresh fresh_below in
+        let views = views_set m sound q awake after e entry_own refl refl
+        (λ r ne. get_or-set_other m.hands q r hand no_hand ne) (part_after p mv x found) own_part_after
+        seat (own_with e)
+        ∙ ap (λ (l : List Entry). set (map (seat_view m) m.seats) q
+        (view l (slice_set (map (own_part m) (seat_at m q).parts) 0 (part_after p mv x found)))) (own_seen e) in
+        (λ i. record {
+          heap = record {
+            words = after.words;
+            index = index i;
+            places = record (places_of after) { to = to i };
+            history = after.history;
+          };
+          views = views i;
+        })
+        ∙ (λ i. record {
+          heap = record {
+            words = after.words;
+            index = index_with ix fresh;
+            places = places i;
+            history = after.history;
+          };
+          views = (applied (core_of m) q 0 (own_view m q) p mv).views;
+        })
+
+    good_after : Good any_store any_entry (site_of m) (core_of after)
+    good_after = subst (λ (c : Core AnyUsage). Good any_store any_entry (site_of m) c) (sym core_after)
+        (good_step any_store any_entry any_laws (site_of m) (core_of m) q 0 (own_view m q) p mv sound.good
+        awake.carries may)
+
+    hands_sound : (r : ℕ) → r < m.shape.callers → IsSoundHand after (hand_at after r)
+    hands_sound r small = dite (ℕ_discrete r q)
+        (λ same.
+        let old = sound.hands q low in
+        subst (IsSoundHand after) (sym (ap (hand_at after) same ∙ hand_is)) record {
+          region = old.region;
+          room = old.room;
+          own = listed_more (hand_at m q).hands.own (hand_at m q).draft.used fresh old.own;
+        })
+        (λ ne.
+        let old = sound.hands r small in
+        subst (IsSoundHand after) (sym (get_or-set_other m.hands q r hand no_hand ne))
+        record { region = old.region; room = old.room; own = old.own })
+
+    seats_seen : (j : ℕ) → (seat_at after j).seen ≤ length after.history
+    seats_seen j = dite (ℕ_discrete j q)
+        (λ same.
+        let inside = slice_get_within m.seats q (seat_at m q) (own_there m sound q awake) in
+        let at : seat_at after j ≡ seat = get_or-set_at m.seats q j seat no_seat same inside in
+        subst (λ (s : SeatState). s.seen ≤ length after.history) (sym at) (own_low e))
+        (λ ne.
+        let at : seat_at after j ≡ seat_at m j = get_or-set_other m.seats q j seat no_seat ne in
+        let old = sound.seen j in
+        let longer = length-append m.history (listed e) in
+        subst (λ (s : SeatState). s.seen ≤ length after.history) (sym at) (omega arith))
+      where
+        own_low : (o : Option Entry) → (seat_with (seat_at m q) (length m.history) o).seen
+            ≤ length (m.history ++ listed o)
+        own_low None =
+            let old = sound.seen q in let longer = length-append m.history (listed None) in omega arith
+        own_low (Some f) = let longer = length-append m.history (listed (Some f)) in omega arith
+
+    -- and are sound again
+    pub sound_after : IsSound after
+    sound_after = record {
+      good = good_after;
+      known_size = known_long m.known fresh ∙ sound.known_size;
+      rows_size = length-set m.rows row (row_with (row_at m.rows row) fresh) ∙ sound.rows_size;
+      hands_size = length-set m.hands q hand ∙ sound.hands_size;
+      seats_size = let size = sound.seats_size in let same = length-set m.seats q seat in omega arith;
+      numbered = subst IsNumbered (sym (index_is m.known fresh fresh_below)) (numbered_with ix fresh sound.numbered);
+      hands = hands_sound;
+      seen = seats_seen;
+    }

@@ -1,0 +1,139 @@
+-- The seats after the hand of one caller changed, and an entry of it was made: all else is as it was.
+use Rattle.std.proofs.Common.{◌≡◌, ◌≢◌, ◌<◌, ◌≤◌, ◌+◌, ℕ, zero, suc, List, [], ◌∷◌, ◌++◌, length, map, take, set, Option, Some, refl, sym, ap, ◌∙◌, subst, arith, get_or-set_other, get_or-set_same}
+use Rattle.std.specs.Prelude.{slice_get, slice_index_or, slice_set}
+use Rattle.std.proofs.Math.Path.{fun_ext}
+use Rattle.std.proofs.lemmas.List.{take-append-le}
+use Rattle.std.proofs.lemmas.Option.{get_or_from_slice_get}
+use native.Mathlib.Decide.{ℕ_discrete}
+use mathlib.Core.Logic.{dite}
+use Rattle.hm_model.specs.declared.entry.Entry.{Entry}
+use Rattle.hm_model.specs.declared.usage.AnyUsage.{AnyUsage}
+use Rattle.hm_model.specs.History.{calls_of}
+use Rattle.hm_moves.specs.declared.part.Part.{Part}
+use Rattle.hm_moves.specs.declared.part.View.{View}
+use Rattle.hm_moves.specs.Acts.{listed}
+use Rattle.hm_moves.specs.After.{view}
+use Rattle.hm_moves.specs.Good.{Carries}
+use Rattle.hm_moves.proofs.Histories.{IsBy, calls_beside}
+use Rattle.hm_core.specs.Hands.{HandState, no_hand}
+use Rattle.hm_core.specs.SeatStates.{SeatState, no_seat}
+use Rattle.hm_core.specs.Stepping.{IsAwake}
+use Rattle.hm_core.specs.Running.{Moment, core_of, hand_at, own_part, own_view, seat_at, seat_view, site_of, IsSound}
+use Rattle.hm_core.proofs.Moments.{Awakes, seated_awake, map_at}
+
+-- a list is replaced at a place, and seen alike elsewhere
+map_agree : {A B : Type 0} (f g : A → B) (xs : List A)
+    → ((j : ℕ) (a : A) → slice_get xs j ≡ Some a → f a ≡ g a) → map f xs ≡ map g xs
+map_agree f g [] h = refl
+map_agree {A} {B} f g (x ∷ xs) h =
+    ap (λ (b : B). b ∷ map f xs) (h 0 x refl)
+    ∙ ap (λ (l : List B). g x ∷ l) (map_agree f g xs (λ j a e. h (suc j) a e))
+
+map_set_agree : {A B : Type 0} (f g : A → B) (xs : List A) (q : ℕ) (y : A) (b : B) → f y ≡ b
+    → ((j : ℕ) (a : A) → slice_get xs j ≡ Some a → j ≢ q → f a ≡ g a)
+    → map f (set xs q y) ≡ set (map g xs) q b
+map_set_agree f g [] q y b e h = refl
+map_set_agree {A} {B} f g (x ∷ xs) zero y b e h =
+    ap (λ (c : B). c ∷ map f xs) e
+    ∙ ap (λ (l : List B). b ∷ l) (map_agree f g xs (λ j a is. h (suc j) a is (λ z. omega arith)))
+map_set_agree {A} {B} f g (x ∷ xs) (suc q) y b e h =
+    ap (λ (c : B). c ∷ map f (set xs q y)) (h 0 x refl (λ z. omega arith))
+    ∙ ap (λ (l : List B). g x ∷ l)
+    (map_set_agree f g xs q y b e (λ j a is ne. h (suc j) a is (λ z. ne (omega arith))))
+
+abbrev to_of : List HandState → ℕ → ℕ
+to_of hands r = (slice_index_or hands r no_hand).draft.region
+
+-- each caller writes into the region where it did
+pub to_same : (hands : List HandState) (q : ℕ) (h : HandState) → q < length hands
+    → h.draft.region ≡ to_of hands q → to_of (set hands q h) ≡ to_of hands
+to_same hands q h low same = fun_ext (λ r. dite (ℕ_discrete r q)
+    (λ e. ap (to_of (set hands q h)) e
+    ∙ (ap (λ (z : HandState). z.draft.region) (get_or-set_same hands q h no_hand low)
+    ∙ (same ∙ ap (to_of hands) (sym e))))
+    (λ ne. ap (λ (z : HandState). z.draft.region) (get_or-set_other hands q r h no_hand ne)))
+
+module _ (m : Moment) (sound : IsSound m) (q : ℕ)
+    (awake : IsAwake (core_of m) q (own_view m q) (own_part m q)) where
+  abbrev own : SeatState
+  own = seat_at m q
+
+  pub seen_low : (j : ℕ) (s : SeatState) → slice_get m.seats j ≡ Some s → s.seen ≤ length m.history
+  seen_low j s there =
+      subst (λ (z : SeatState). z.seen ≤ length m.history) (get_or_from_slice_get m.seats j s no_seat there)
+      (sound.seen j)
+
+  seated : Awakes m q (own_view m q) (own_part m q)
+  seated = seated_awake m q (own_view m q) (own_part m q) awake
+
+  own_is : own ≡ seated.state
+  own_is = get_or_from_slice_get m.seats q seated.state no_seat seated.seated.seat
+
+  pub own_there : slice_get m.seats q ≡ Some own
+  own_there = seated.seated.seat ∙ ap (λ (z : SeatState). Some z) (sym own_is)
+
+  own_first : slice_get own.parts 0 ≡ Some q
+  own_first = ap (λ (z : SeatState). slice_get z.parts 0) own_is ∙ seated.seated.first
+
+  -- a caller that another place carries is another caller
+  carried : (j k r : ℕ) (s : SeatState) → slice_get m.seats j ≡ Some s → slice_get s.parts k ≡ Some r
+      → r ≡ q → (j ≡ q) × (k ≡ 0)
+  carried j k r s there here same =
+      let c : Carries (core_of m).views j k (seat_view m s) (own_part m r) = record {
+        seat = map_at (seat_view m) m.seats j s there;
+        place = map_at (own_part m) s.parts k r here;
+      } in
+      sound.good.apart j k q 0 (seat_view m s) (own_view m q) (own_part m r) (own_part m q) c awake.carries
+      same
+
+  module _ (n : Moment) (o : Option Entry) (by : IsBy q o) (site : site_of n ≡ site_of m)
+      (history : n.history ≡ m.history ++ listed o)
+      (hands : (r : ℕ) → r ≢ q → hand_at n r ≡ hand_at m r) where
+    other_part : (r : ℕ) → r ≢ q → own_part n r ≡ own_part m r
+    other_part r ne =
+        let calls : calls_of r n.history ≡ calls_of r m.history = ap (calls_of r) history
+        ∙ calls_beside q r m.history (calls_of r m.history) o by (λ z. ne (sym z)) refl in
+        λ i. record {
+          site = site i;
+          number = r;
+          draft = (hands r ne i).draft;
+          hands = (hands r ne i).hands;
+          calls = record { mine = calls i };
+          cycle = record {};
+        }
+
+    -- the view of another seat is as it was
+    pub other_view : (j : ℕ) (s : SeatState) → slice_get m.seats j ≡ Some s → j ≢ q
+        → seat_view n s ≡ seat_view m s
+    other_view j s there ne =
+        ap (λ (l : List Entry). view (take s.seen l) (map (own_part n) s.parts)) history
+        ∙ (ap (λ (l : List Entry). view l (map (own_part n) s.parts))
+        (take-append-le s.seen m.history (listed o) (seen_low j s there))
+        ∙ ap (λ (l : List (Part AnyUsage)). view (take s.seen m.history) l)
+        (map_agree (own_part n) (own_part m) s.parts (λ k r here.
+        other_part r (λ same. ne (carried j k r s there here same).0))))
+
+    module _ (new : Part AnyUsage) (is : own_part n q ≡ new) where
+      pub own_parts : map (own_part n) own.parts ≡ slice_set (map (own_part m) own.parts) 0 new
+      own_parts = go own.parts own_first (λ k r here. carried q k r own own_there here)
+        where
+          go : (l : List ℕ) → slice_get l 0 ≡ Some q
+              → ((k r : ℕ) → slice_get l k ≡ Some r → r ≡ q → (q ≡ q) × (k ≡ 0))
+              → map (own_part n) l ≡ slice_set (map (own_part m) l) 0 new
+          go [] h each = absurd (cc)
+          go (r ∷ rs) h each =
+              let same : r ≡ q = cc in
+              ap (λ (z : Part AnyUsage). z ∷ map (own_part n) rs) (ap (own_part n) same ∙ is)
+              ∙ ap (λ (l : List (Part AnyUsage)). new ∷ l)
+              (map_agree (own_part n) (own_part m) rs (λ k t here.
+              other_part t (λ e. let z = (each (suc k) t here e).1 in absurd (omega arith))))
+
+      -- all seats, with another one in place of the caller's own that carries the same callers
+      pub views_set : (s : SeatState) → s.parts ≡ own.parts
+          → map (seat_view n) (set m.seats q s) ≡ set (map (seat_view m) m.seats) q
+          (view (take s.seen n.history) (slice_set (map (own_part m) own.parts) 0 new))
+      views_set s parts = map_set_agree (seat_view n) (seat_view m) m.seats q s
+          (view (take s.seen n.history) (slice_set (map (own_part m) own.parts) 0 new))
+          (ap (λ (l : List (Part AnyUsage)). view (take s.seen n.history) l)
+          (ap (map (own_part n)) parts ∙ own_parts))
+          other_view

@@ -1,0 +1,54 @@
+-- Words of a draft that name a version no more, once that is let go.
+use Rattle.std.proofs.Common.{◌≡◌, ◌<◌, ◌≤◌, ◌+◌, ℕ, zero, suc, List, [], ◌∷◌, length, get_or, set, Option, Some, None, refl, sym, ap, ◌∙◌, subst, arith}
+use Rattle.std.proofs.lemmas.List.{length-set, get_or-set_same, get_or-set_other, ext_get_or}
+use native.Mathlib.Decide.{ℕ_discrete}
+use mathlib.Core.Logic.{dite}
+use Rattle.hm_moves.specs.declared.part.Known.{Known}
+use Rattle.hm_moves.specs.After.{unless_named, unnamed_from, unnamed}
+
+-- words of a draft have been looked at as far as the i-th, so that none of them names a version
+pub record AreUnnamedTo (k : Known) (i : ℕ) (old new : List (Option ℕ)) : Type 0 where
+  pub long : length new ≡ length old
+  pub before : (j : ℕ) → j < i → get_or new j None ≡ unless_named k j (get_or old j None)
+  pub behind : (j : ℕ) → i ≤ j → get_or new j None ≡ get_or old j None
+
+pub unnamed_long : (k : Known) (i : ℕ) (l : List (Option ℕ)) → length (unnamed_from k i l) ≡ length l
+unnamed_long k i [] = refl
+unnamed_long k i (x ∷ xs) = ap suc (unnamed_long k (i + 1) xs)
+
+unnamed_at : (k : Known) (i : ℕ) (l : List (Option ℕ)) (j : ℕ)
+    → get_or (unnamed_from k i l) j None ≡ unless_named k (i + j) (get_or l j None)
+unnamed_at k i [] j = refl
+unnamed_at k i (x ∷ xs) zero = let at : i ≡ i + 0 = omega arith in ap (λ (n : ℕ). unless_named k n x) at
+unnamed_at k i (x ∷ xs) (suc j) =
+    let at : (i + 1) + j ≡ i + suc j = omega arith in
+    unnamed_at k (i + 1) xs j ∙ ap (λ (n : ℕ). unless_named k n (get_or xs j None)) at
+
+pub unnamed_none : (k : Known) (old : List (Option ℕ)) → AreUnnamedTo k 0 old old
+unnamed_none k old = record { long = refl; before = λ j low. absurd (omega arith); behind = λ j low. refl }
+
+pub unnamed_more : (k : Known) (i : ℕ) (old new : List (Option ℕ)) (word : Option ℕ)
+    → AreUnnamedTo k i old new
+    → i < length old → word ≡ unless_named k i (get_or new i None)
+    → AreUnnamedTo k (i + 1) old (set new i word)
+unnamed_more k i old new word h low is =
+    let long = h.long in
+    record {
+      long = length-set new i word ∙ h.long;
+      before = λ j less. dite (ℕ_discrete j i)
+          (λ (e : j ≡ i). subst (λ (n : ℕ). get_or (set new i word) n None
+          ≡ unless_named k n (get_or old n None)) (sym e)
+          (get_or-set_same new i word None (omega arith)
+          ∙ (is ∙ ap (unless_named k i) (h.behind i (omega arith)))))
+          (λ ne. get_or-set_other new i j word None ne ∙ h.before j (omega arith));
+      behind = λ j more. get_or-set_other new i j word None (λ z. omega arith) ∙ h.behind j (omega arith);
+    }
+
+pub unnamed_all : (k : Known) (i : ℕ) (old new : List (Option ℕ)) → AreUnnamedTo k i old new → length old ≤ i
+    → new ≡ unnamed (Some k) old
+unnamed_all k i old new h far =
+    let long = h.long in
+    ext_get_or None new (unnamed_from k 0 old) (h.long ∙ sym (unnamed_long k 0 old))
+    (λ j low. h.before j (omega arith)
+    ∙ (ap (λ (n : ℕ). unless_named k n (get_or old j None)) (let at : j ≡ 0 + j = omega arith in at)
+    ∙ sym (unnamed_at k 0 old j)))

@@ -1,0 +1,294 @@
+-- What the code that takes a move needs: an entry that stands, stamps that fit, and room.
+use Rattle.std.proofs.Common.{◌≡◌, ◌<◌, ◌≤◌, ◌+◌, ◌*◌, ◌^◌, ℕ, zero, suc, List, [], ◌∷◌, ◌++◌, length, get_or, set, Option, Some, None, IfSome, refl, sym, ap, ◌∙◌, subst, arith}
+use Rattle.std.specs.Prelude.{slice_index}
+use Rattle.std.proofs.Math.Nat.{mul-le-mul_right, mul-le-mul_left}
+use Rattle.hm_shape.specs.declared.shape.Shape.{Shape}
+use Rattle.hm_shape.specs.Versions.{version_count}
+use Rattle.hm_model.specs.declared.object.Name.{Name}
+use Rattle.hm_model.specs.declared.object.Contents.{Contents}
+use Rattle.hm_model.specs.declared.entry.Tried.TheVariants.{Stored, Changed}
+use Rattle.hm_model.specs.declared.entry.Entry.{Entry}
+use Rattle.hm_model.specs.declared.entry.Entry.TheVariants.{Create, Fetch, Store, StoreIf}
+use Rattle.hm_model.specs.Store.{contents_of, IsThere}
+use Rattle.hm_model.specs.Effect.{Stands, caller_of}
+use Rattle.hm_model.specs.History.{store_of, AllStand}
+use Rattle.hm_model.proofs.HistoryFacts.{all_stand_parts}
+use Rattle.hm_moves.specs.declared.part.Known.{Known}
+use Rattle.hm_moves.specs.declared.part.Part.{Part}
+use Rattle.hm_moves.specs.declared.moving.Look.{Look}
+use Rattle.hm_moves.specs.declared.moving.Look.TheVariants.{LoadStamp, LoadReference, LoadNumber, LoadLink}
+use Rattle.hm_moves.specs.declared.moving.Build.TheVariants.{StoreOwn, Publish, LinkStore}
+use Rattle.hm_moves.specs.declared.moving.Act.{Act}
+use Rattle.hm_moves.specs.declared.moving.Act.TheVariants.{Looks, Builds}
+use Rattle.hm_moves.specs.declared.moving.Move.{Move}
+use Rattle.hm_moves.specs.Chain.{Index, link_of, lookup}
+use Rattle.hm_moves.specs.Acts.{becomes, entry_of, finds, listed, next_version, publishes, where_zero, word_of}
+use Rattle.hm_moves.specs.After.{row_of_part}
+use Rattle.hm_moves.specs.Allowed.{HasHand, HasRoom, MayHold, MayLookInto, Reads, Turns, TurnsBy, MayTake, IsLawfulMove}
+use Rattle.hm_moves.proofs.Held.{some_more}
+use Rattle.hm_moves.proofs.Heaps.{present_at}
+use Rattle.hm_core.specs.Chronicles.{name_of, HasNextStamp}
+use Rattle.hm_core.specs.declared.machine.Row.{Row}
+use Rattle.hm_core.specs.Hands.{HandState, CanHold, CanPublish, CanFollow, IsOwnWord, hand_after}
+use Rattle.hm_core.specs.SeatStates.{SeatState}
+use Rattle.hm_core.specs.Stepping.{IsAwake}
+use Rattle.hm_core.specs.Running.{Moment, any_store, any_entry, core_of, hand_at, index_of, known_with, own_part, own_view, row_at, row_with, seat_at, seat_with, IsSound}
+use Rattle.hm_core.proofs.Moments.{part_good, awake_below, known_fit, look_index}
+use Rattle.hm_core.proofs.FieldsRead.{read_at, hand_read, seat_read, row_read}
+use Rattle.hm_core.proofs.AfterMove.{after, sound_after, fresh_next, fresh_below, entry_own}
+
+-- a heap has few versions
+few_versions : (s : Shape) → version_count s ≤ 2097152
+few_versions s =
+    let a = s.callers_fit in
+    let four = s.regions_fit in
+    let b = s.versions_fit in
+    let rows : s.callers * s.regions ≤ 32 = subst (λ (r : ℕ). s.callers * r ≤ 32) (sym four) (omega arith) in
+    let c = mul-le-mul_right s.versions rows in
+    omega arith
+
+none_has : {A : Type 0} (P : A → Type 0) (o : Option A) → o ≡ None → IfSome o P
+none_has P None e = tt
+none_has P (Some a) e = absurd (cc)
+
+some_has : {A : Type 0} (P : A → Type 0) (o : Option A) (a : A) → o ≡ Some a → P a → IfSome o P
+some_has P o a e h = subst (λ (z : Option _). IfSome z P) (sym e) h
+
+certain : {A : Type 0} (P : Type 0) (o : Option A) → P → IfSome o (λ a. P)
+certain P None h = tt
+certain P (Some a) h = h
+
+module _ {U : Type 0} (known : Name → Type 0) (p : Part U) (k : Known) where
+  reads_name : (e : Entry) → Reads known p k e → name_of e ≡ k.name
+  reads_name (Fetch q n answer) h = h.0.object
+  reads_name (StoreIf q n stamp refs numbers (Changed now)) h = h.0.object
+  reads_name (StoreIf q n stamp refs numbers Stored) h = absurd h
+  reads_name e h = absurd h
+
+  turns_name : (x : Contents) (e : Entry) → Turns known p k x e → name_of e ≡ k.name
+  turns_name x (Store q n field) h = h.0.object
+  turns_name x (StoreIf q n stamp refs numbers Stored) h = h.0.object
+  turns_name x (StoreIf q n stamp refs numbers (Changed now)) h = absurd h
+  turns_name x e h = absurd h
+
+module _ {U : Type 0} (ix : Index) (p : Part U) where
+  -- what may be found or published may be held
+  room_left : (a : Act) (x : ℕ) → MayHold p a
+      → IfSome (finds ix a x) (λ k. HasHand p) × IfSome (publishes a x) (λ k. HasHand p)
+  room_left (Looks (LoadStamp at)) x h = (tt, tt)
+  room_left (Looks (LoadReference at i)) x h = (certain (HasHand p) (lookup ix x) h, tt)
+  room_left (Looks (LoadNumber at i)) x h = (tt, tt)
+  room_left (Looks (LoadLink at want)) x h = (certain (HasHand p) (lookup ix x) h, tt)
+  room_left (Builds (StoreOwn i word)) x h = (tt, tt)
+  room_left (Builds (Publish fresh)) x h = (tt, h)
+  room_left (Builds (LinkStore at fresh entry)) x h =
+      (certain (HasHand p) (lookup ix x) h, certain (HasHand p) (where_zero (Some fresh) x) h)
+
+  -- an act that finds a version publishes none
+  one_at_most : (a : Act) (x : ℕ) → IfSome (finds ix a x) (λ k. publishes a x ≡ None)
+  one_at_most (Looks l) x = certain (None ≡ None) (finds ix (Looks l) x) refl
+  one_at_most (Builds (StoreOwn i word)) x = tt
+  one_at_most (Builds (Publish fresh)) x = tt
+  one_at_most (Builds (LinkStore at fresh entry)) zero = tt
+  one_at_most (Builds (LinkStore at fresh entry)) (suc v) = certain (None ≡ None) (ix v) refl
+
+module _ (m : Moment) (sound : IsSound m) (q : ℕ)
+    (awake : IsAwake (core_of m) q (own_view m q) (own_part m q)) (mv : Move)
+    (may : IsLawfulMove any_store any_entry m.history (own_part m q) mv) where
+  abbrev x : ℕ
+  x = slice_index m.words (word_of (own_part m q) mv.act)
+
+  -- the entry that is made stands
+  pub entry_stands : IfSome (entry_of q mv.act x) (Stands (store_of m.history))
+  entry_stands = go (entry_of q mv.act x) (sound_after m q mv sound awake may).good.heap.history.legal.stand
+    where
+      go : (o : Option Entry) → AllStand [] (m.history ++ listed o) → IfSome o (Stands (store_of m.history))
+      go None h = tt
+      go (Some e) h = (all_stand_parts [] m.history (e ∷ []) h).1.0
+
+  -- where a version's link is 0, its object's stamp can be raised
+  present_stamp : (e : Entry) (at : Known) → name_of e ≡ at.name → MayLookInto (own_part m q) at
+      → 0 ≡ link_of m.shape m.words at → HasNextStamp (store_of m.history) e (2 ^ 64)
+  present_stamp e at name look zero_link =
+      let fit = known_fit m sound at.version.0 at (look_index m sound q awake at look) in
+      let few = few_versions m.shape in
+      let stamp = fit.sized.stamp in
+      let rank = fit.rank in
+      some_has (λ (c : Contents). c.stamp + 1 < 2 ^ 64) (contents_of (store_of m.history) (name_of e))
+      at.contents
+      (ap (contents_of (store_of m.history)) name
+      ∙ present_at any_store any_entry (core_of m).heap (own_view m q).seen (own_part m q) sound.good.heap
+      (part_good m sound q awake) at look zero_link)
+      (omega arith)
+
+  stamp_fits : (a : Act) → MayTake (IsThere (store_of m.history))
+      (λ e. Stands (store_of m.history) e → any_entry record {} (store_of m.history) e) (own_part m q) a
+      → (y : ℕ) → y ≡ slice_index m.words (word_of (own_part m q) a)
+      → IfSome (entry_of q a y) (Stands (store_of m.history))
+      → IfSome (entry_of q a y) (λ e. HasNextStamp (store_of m.history) e (2 ^ 64))
+  stamp_fits (Looks (LoadLink at (Some e))) h zero is stands =
+      present_stamp e at (reads_name _ (own_part m q) at e h.reads) h.look is
+  stamp_fits (Looks (LoadLink at (Some e))) h (suc n) is stands = tt
+  stamp_fits (Looks (LoadLink at None)) h zero is stands = tt
+  stamp_fits (Looks (LoadLink at None)) h (suc n) is stands = tt
+  stamp_fits (Looks (LoadStamp at)) h zero is stands = tt
+  stamp_fits (Looks (LoadStamp at)) h (suc n) is stands = tt
+  stamp_fits (Looks (LoadReference at i)) h zero is stands = tt
+  stamp_fits (Looks (LoadReference at i)) h (suc n) is stands = tt
+  stamp_fits (Looks (LoadNumber at i)) h zero is stands = tt
+  stamp_fits (Looks (LoadNumber at i)) h (suc n) is stands = tt
+  stamp_fits (Builds (StoreOwn i word)) h y is stands = tt
+  stamp_fits (Builds (Publish k)) h y is stands =
+      none_has (λ (c : Contents). c.stamp + 1 < 2 ^ 64) (contents_of (store_of m.history) k.name) stands.fresh
+  stamp_fits (Builds (LinkStore at k (Some e))) h zero is stands =
+      present_stamp e at (turns_name _ (own_part m q) at k.contents e h.turns) h.look is
+  stamp_fits (Builds (LinkStore at k (Some e))) h (suc n) is stands = tt
+  stamp_fits (Builds (LinkStore at k None)) h zero is stands = tt
+  stamp_fits (Builds (LinkStore at k None)) h (suc n) is stands = tt
+
+  -- and its object's stamp can be raised
+  pub entry_stamp : IfSome (entry_of q mv.act x) (λ e. HasNextStamp (store_of m.history) e (2 ^ 64))
+  entry_stamp = stamp_fits mv.act may.act x refl entry_stands
+
+  -- it is by one of the callers
+  pub entry_below : IfSome (entry_of q mv.act x) (λ e. caller_of e < m.shape.callers)
+  entry_below = some_more (λ (e : Entry). caller_of e ≡ q) (λ (e : Entry). caller_of e < m.shape.callers)
+      (λ e by. let low = awake_below m sound q awake in omega arith) (entry_of q mv.act x)
+      (entry_own m q mv sound awake may)
+
+  own_word : (a : Act) → MayTake (IsThere (store_of m.history))
+      (λ e. Stands (store_of m.history) e → any_entry record {} (store_of m.history) e) (own_part m q) a
+      → IsOwnWord a
+  own_word (Looks l) h = tt
+  own_word (Builds (StoreOwn i word)) h = h.below
+  own_word (Builds (Publish k)) h = tt
+  own_word (Builds (LinkStore at k e)) h = tt
+
+  -- the caller's hand can follow the move
+  pub can_follow : CanFollow (hand_at m q) mv x (finds (index_of m.known) mv.act x)
+  can_follow =
+      let room = room_left (index_of m.known) (own_part m q) mv.act x may.holds in
+      let mine = sound.hands q (awake_below m sound q awake) in
+      record {
+        found = room.0;
+        fresh = room.1;
+        room = some_more (λ (k : Known). (k.version ≡ next_version (own_part m q)) × HasRoom (own_part m q))
+            (CanPublish (hand_at m q))
+            (λ k h.
+            let own = mine.own in let size = mine.room in let few = m.shape.versions_fit in
+            let left = h.1 in (omega arith, omega arith))
+            (publishes mv.act x) (fresh_next m q mv sound awake may);
+        one = one_at_most (index_of m.known) (own_part m q) mv.act x;
+        word = own_word mv.act may.act;
+      }
+
+-- what is counted of a row is small
+pub row_small : (m : Moment) (sound : IsSound m) (row : ℕ)
+    → ((row_at m.rows row).used + 1 < 2 ^ 32) × ((row_at m.rows row).made + 1 < 2 ^ 64)
+row_small m sound row =
+    let heap = sound.good.heap in
+    let filled = heap.placed.filled row in
+    let made = heap.ranked.made row in
+    let freed = heap.ranked.freed row in
+    let none : m.shape.versions * (row_at m.rows row).freed ≤ m.shape.versions * 0 =
+    mul-le-mul_left m.shape.versions freed in
+    let few = m.shape.versions_fit in (omega arith, omega arith)
+
+module _ (a m : Moment) (same : a ≡ m) (sound : IsSound m) (q : ℕ)
+    (awake : IsAwake (core_of m) q (own_view m q) (own_part m q)) (mv : Move)
+    (may : IsLawfulMove any_store any_entry m.history (own_part m q) mv) (at y : ℕ)
+    (word : at ≡ word_of (own_part m q) mv.act) (low : at < length m.words) (got : y ≡ get_or a.words at y) where
+  abbrev w : ℕ
+  w = slice_index m.words (word_of (own_part m q) mv.act)
+
+  -- the word that was found is that of the act
+  pub word_found : y ≡ slice_index m.words (word_of (own_part m q) mv.act)
+  word_found =
+      read_at a.words m.words at y 0 (ap (λ (z : Moment). z.words) same) low got
+      ∙ ap (λ (i : ℕ). get_or m.words i 0) word
+
+  -- what the entry needs
+  pub stands_now : (o : Option Entry) → o ≡ entry_of q mv.act y → IfSome o (Stands (store_of a.history))
+  stands_now o is =
+      let path : (o, a.history) ≡ (entry_of q mv.act w, m.history) =
+      λ i. ((is ∙ ap (entry_of q mv.act) word_found) i, (same i).history) in
+      subst (λ (t : Option Entry × List Entry). IfSome t.0 (Stands (store_of t.1))) (sym path)
+      (entry_stands m sound q awake mv may)
+
+  pub stamp_now : (o : Option Entry) → o ≡ entry_of q mv.act y
+      → IfSome o (λ e. HasNextStamp (store_of a.history) e (2 ^ 64))
+  stamp_now o is =
+      let path : (o, a.history) ≡ (entry_of q mv.act w, m.history) =
+      λ i. ((is ∙ ap (entry_of q mv.act) word_found) i, (same i).history) in
+      subst (λ (t : Option Entry × List Entry). IfSome t.0 (λ e. HasNextStamp (store_of t.1) e (2 ^ 64)))
+      (sym path) (entry_stamp m sound q awake mv may)
+
+  pub caller_now : (o : Option Entry) (makers : ℕ) → o ≡ entry_of q mv.act y → makers ≡ a.shape.callers
+      → IfSome o (λ e. caller_of e < makers)
+  caller_now o makers is count =
+      let path : (o, makers) ≡ (entry_of q mv.act w, m.shape.callers) =
+      λ i. ((is ∙ ap (entry_of q mv.act) word_found) i, (count ∙ ap (λ (z : Moment). z.shape.callers) same) i)
+      in
+      subst (λ (t : Option Entry × ℕ). IfSome t.0 (λ e. caller_of e < t.1)) (sym path)
+      (entry_below m sound q awake mv may)
+
+  -- and the hand
+  pub follow_now : (h : HandState) (f : Option Known) → h ≡ get_or a.hands q h
+      → f ≡ finds (index_of m.known) mv.act y → CanFollow h mv y f
+  follow_now h f read is =
+      let path : (h, y, f) ≡ (hand_at m q, w, finds (index_of m.known) mv.act w) =
+      λ i. (hand_read a m same sound q awake h read i, word_found i, (is ∙ ap (finds (index_of m.known) mv.act) word_found) i) in
+      subst (λ (t : HandState × ℕ × Option Known). CanFollow t.0 mv t.1 t.2) (sym path)
+      (can_follow m sound q awake mv may)
+
+  -- and the index
+  pub below_now : (n : Option Known) → n ≡ publishes mv.act y → IfSome n (λ k. k.version.0 < length a.known)
+  below_now n is =
+      let path : (n, a.known) ≡ (publishes mv.act w, m.known) =
+      λ i. ((is ∙ ap (publishes mv.act) word_found) i, (same i).known) in
+      subst (λ (t : Option Known × List (Option Known)). IfSome t.0 (λ k. k.version.0 < length t.1)) (sym path)
+      (fresh_below m q mv sound awake may)
+
+  -- the plain data that the code leaves are those after the move
+  pub after_is : (b row : ℕ) (known : List (Option Known)) (es : List Entry) (r r' : Row) (h h' : HandState)
+      (s s' : SeatState) (o : Option Entry) (f n : Option Known)
+      → b ≡ becomes mv.act y → row ≡ row_of_part (own_part m q) → row < length m.rows
+      → known ≡ known_with a.known n → es ≡ a.history ++ listed o
+      → r ≡ get_or a.rows row r → r' ≡ row_with r n
+      → h ≡ get_or a.hands q h → h' ≡ hand_after h mv y f
+      → s ≡ get_or a.seats q s → s' ≡ seat_with s (length a.history) o
+      → o ≡ entry_of q mv.act y → f ≡ finds (index_of m.known) mv.act y → n ≡ publishes mv.act y
+      → record a {
+        words = set a.words at b;
+        known = known;
+        rows = set a.rows row r';
+        history = es;
+        hands = set a.hands q h';
+        seats = set a.seats q s';
+      } ≡ after m q mv
+  after_is b row known es r r' h h' s s' o f n eb erow lrow ek ees er er' eh eh' es' es'' eo ef en =
+      let x_is = word_found in
+      let o_is : o ≡ entry_of q mv.act w = eo ∙ ap (entry_of q mv.act) x_is in
+      let f_is : f ≡ finds (index_of m.known) mv.act w = ef ∙ ap (finds (index_of m.known) mv.act) x_is in
+      let n_is : n ≡ publishes mv.act w = en ∙ ap (publishes mv.act) x_is in
+      let b_is : b ≡ becomes mv.act w = eb ∙ ap (becomes mv.act) x_is in
+      let r_is : r ≡ row_at m.rows (row_of_part (own_part m q)) = row_read a m same sound q awake row r lrow er
+      ∙ ap (row_at m.rows) erow in
+      let h_is : h ≡ hand_at m q = hand_read a m same sound q awake h eh in
+      let s_is : s ≡ seat_at m q = seat_read a m same sound q awake s es' in
+      (λ i. record a {
+        words = set a.words at b;
+        known = ek i;
+        rows = set a.rows row (er' i);
+        history = ees i;
+        hands = set a.hands q (eh' i);
+        seats = set a.seats q (es'' i);
+      })
+      ∙ (λ i. record (same i) {
+        words = set (same i).words (word i) (b_is i);
+        known = known_with (same i).known (n_is i);
+        rows = set (same i).rows (erow i) (row_with (r_is i) (n_is i));
+        history = (same i).history ++ listed (o_is i);
+        hands = set (same i).hands q (hand_after (h_is i) mv (x_is i) (f_is i));
+        seats = set (same i).seats q (seat_with (s_is i) (length (same i).history) (o_is i));
+      })
