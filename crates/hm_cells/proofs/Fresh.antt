@@ -22,7 +22,7 @@ use Rattle.hm_moves.specs.Fresh.{all_known, common_known, fresh_part, side_known
 use Rattle.hm_cells.specs.declared.knowledge.Knowledge.{Knowledge}
 use Rattle.hm_cells.specs.Grips.{Gripped}
 use Rattle.hm_cells.specs.Facts.{IsAmong, IsSound, IsSure}
-use Rattle.hm_cells.specs.Shows.{IsSeated, caller_in, facts_of, knowledge}
+use Rattle.hm_cells.specs.Shows.{IsSeated, caller_in, to_first, facts_of, knowledge}
 use Rattle.hm_cells.specs.Making.{first_roots, first_used, fresh_pass, newcomer}
 use Rattle.hm_moves.proofs.Fresh.{many, numbered, numbered_at}
 use Rattle.hm_cells.proofs.Found.{there_found}
@@ -97,14 +97,14 @@ module _ {U : Type 0} (lawful : U → PlainStore → Type 0) (allowed : U → Pl
       steps = (me i).0.steps;
     }
 
-    pub seated_fresh : (used : ℕ) → used ≡ first_used g.start q
-        → IsSeated lawful allowed seat (facts_of seat grip) g.shape q 0 used
-    seated_fresh used is = record {
+    pub seated_fresh : (to used : ℕ) → (version_at g.shape q 0 0).0 ≡ to → used ≡ first_used g.start q
+        → IsSeated lawful allowed seat (facts_of seat grip) g.shape q to used
+    seated_fresh to used first is = record {
       own = ap (λ (l : List (Part U)). get_elem? l 0) parts_are ∙ ap some (sym part_is);
       none = ap (λ (m : Me (Unit {0}) (Knowledge U)). m.1) me;
       shape_is = ap (λ (p : Part U). p.site.shape) part_is;
       number_is = ap (λ (p : Part U). p.number) part_is;
-      to_is = ap (λ (p : Part U). p.draft.region) part_is;
+      to_is = ap to_first part_is ∙ first;
       used_is = ap (λ (p : Part U). p.draft.used) part_is ∙ sym is;
       sound = subst (IsSound lawful allowed) (sym fresh_is) sound_fresh;
     }

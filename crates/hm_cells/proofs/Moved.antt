@@ -22,7 +22,7 @@ use Rattle.hm_cells.specs.declared.knowledge.Knowledge.{Knowledge}
 use Rattle.hm_cells.specs.Grips.{Gripped}
 use Rattle.hm_cells.specs.Facts.{Facts, IsAmong, IsSure, IsSound, find_version, names_at, sight_of}
 use Rattle.hm_cells.specs.Calls.{Takes, Tells, after, move_by, taken}
-use Rattle.hm_cells.specs.Shows.{IsSeated, Learnt, Learns, caller_in, facts_of}
+use Rattle.hm_cells.specs.Shows.{IsSeated, Learnt, Learns, caller_in, facts_of, to_first}
 use Rattle.hm_cells.proofs.Found.{IsNamed, among, apart_after, named_stays, names_stay, there_found}
 use Rattle.hm_cells.proofs.Entered.{entered}
 
@@ -200,7 +200,7 @@ module _ {U : Type 0} (lawful : U → PlainStore → Type 0) (allowed : U → Pl
       none = slots ∙ seated.none;
       shape_is = ap (λ (q : Part U). q.site.shape) part_is ∙ seated.shape_is;
       number_is = ap (λ (q : Part U). q.number) part_is ∙ seated.number_is;
-      to_is = ap (λ (q : Part U). q.draft.region) part_is ∙ seated.to_is;
+      to_is = ap to_first part_is ∙ seated.to_is;
       used_is = ap (λ (q : Part U). q.draft.used) part_is
           ∙ (ap (λ (n : ℕ). n + count_of (publishes act x)) seated.used_is ∙ sym more);
       sound = sound_now;

@@ -16,7 +16,7 @@ use Rattle.hm_cells.specs.Facts.{Facts, IsAmong, IsSound, IsSure, find_version, 
 use Rattle.hm_cells.specs.Calls.{Meets, rested}
 use Rattle.hm_moves.proofs.Places.{at_longer, set_here}
 use Rattle.atomic_table.specs.Table.{Me}
-use Rattle.hm_cells.specs.Shows.{first_letting, met, noting, IsSeated, Looked, LookTells, caller_in, facts_of}
+use Rattle.hm_cells.specs.Shows.{first_letting, met, noting, IsSeated, Looked, LookTells, caller_in, facts_of, to_first}
 use Rattle.hm_cells.proofs.Moved.{first_in}
 use Rattle.hm_cells.proofs.Sure.{sure_let}
 use mathlib.Core.Option.{some, some-injective, some-ne-none}
@@ -117,7 +117,7 @@ module _ {U : Type 0} (lawful : U → PlainStore → Type 0) (allowed : U → Pl
       none = slots;
       shape_is = ap (λ (q : Part U). q.site.shape) part_is ∙ seated.shape_is;
       number_is = ap (λ (q : Part U). q.number) part_is ∙ seated.number_is;
-      to_is = ap (λ (q : Part U). q.draft.region) part_is ∙ seated.to_is;
+      to_is = ap to_first part_is ∙ seated.to_is;
       used_is = ap (λ (q : Part U). q.draft.used) part_is ∙ seated.used_is;
       sound = sound_now;
     }

@@ -6,6 +6,7 @@ use Rattle.atomic_table.specs.Table.{State}
 use Rattle.atomic_table.specs.Seated.{TableId}
 use Rattle.atomic_table.specs.declared.shared.Seat.{Seat}
 use Rattle.hm_shape.specs.declared.shape.Shape.{Shape}
+use Rattle.hm_shape.specs.Versions.{version_at}
 use Rattle.hm_shape.specs.Words.{word_count}
 use Rattle.hm_model.specs.declared.entry.Entry.{Entry}
 use Rattle.hm_model.specs.Store.{PlainStore}
@@ -60,6 +61,10 @@ module _ {U : Type 0} where
     hand = grip.hand;
     steps = seat.me.0.steps;
   }
+
+  -- a To region begins with a version of this number
+  abbrev pub to_first : Part U → ℕ
+  to_first p = (version_at p.site.shape p.number p.draft.region 0).0
 
   -- a seat's own caller lets go of a version
   abbrev pub first_letting : List (Part U) → Option Known → List (Part U)
@@ -177,6 +182,6 @@ module _ {U : Type 0} where
       pub none : seat.me.1 ≡ []
       pub shape_is : s.part.site.shape ≡ shape
       pub number_is : s.part.number ≡ number
-      pub to_is : s.part.draft.region ≡ to
+      pub to_is : to_first s.part ≡ to
       pub used_is : s.part.draft.used ≡ used
       pub sound : IsSound lawful allowed s

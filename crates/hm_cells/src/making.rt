@@ -118,7 +118,7 @@ impl<U: Usage> Pass<U> {
             grip,
             shape: opening.shape,
             number,
-            to: 0,
+            to: Version::at(opening.shape, number, 0, 0).0,
             used,
         })
     }

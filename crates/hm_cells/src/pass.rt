@@ -21,7 +21,8 @@ pub struct Pass<U: Usage> {
     pub(crate) grip: Grip<U>,
     pub(crate) shape: Shape,
     pub(crate) number: u32,
-    // The caller's To region, and how many of its places are used.
+    // The number of the first version of the caller's To region, and how many of its places are used: their sum is
+    // the next version's number, without a look at the shape between two stores.
     pub(crate) to: u32,
     pub(crate) used: u32,
 }
@@ -94,7 +95,7 @@ impl<U: Usage> Pass<U> {
             ≡ option_map (λ k. k.version) (slice_get self.now.part.hands.own i) }
     {
         if i < self.used {
-            Some(Version::at(self.shape, self.number, self.to, i))
+            Some(Version(self.to + i))
         } else {
             None
         }
@@ -105,7 +106,7 @@ impl<U: Usage> Pass<U> {
         requires { HasRoom self.now.part }
         ensures { result ≡ next_version self.now.part }
     {
-        Version::at(self.shape, self.number, self.to, self.used)
+        Version(self.to + self.used)
     }
 
     /// Whether the place names an object.

@@ -1,4 +1,4 @@
-use Rattle.std.proofs.Common.{◌≡◌, ◌-◌, ℕ, [], Some, set, refl, ap, ◌∙◌, arith}
+use Rattle.std.proofs.Common.{◌≡◌, ◌-◌, ℕ, [], Some, set, refl, sym, ap, ◌∙◌, arith}
 use Rattle.hm_shape.specs.declared.version.Version.{Version}
 use Rattle.hm_model.specs.History.{side_count}
 use Rattle.hm_cells.specs.Grips.{Gripped, site_of}
@@ -24,7 +24,7 @@ invariant_of-result g c =
     seated_fresh g.U.Usage.lawful g.U.Usage.allowed site c.args.seat.table_id c.args.number w.1.sized
     (sure_first g.U.Usage.lawful g.U.Usage.allowed site w.0 w.1 w.1.sized c.requires.objects c.requires.lawful
     c.args.number c.requires.number) c.args.seat c.set.new.self c.requires.seat refl roots hand
-    c.args.used c.requires.used
+    c.at.result.0 c.args.used (ap (λ (v : Version). v.0) (sym c.at.ensures.there.number)) c.requires.used
 
 pub returns : goal.returns
 returns g c =
