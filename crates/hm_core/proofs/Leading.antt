@@ -25,7 +25,7 @@ use Rattle.hm_core.specs.declared.step.Other.{Other}
 use Rattle.hm_core.specs.declared.step.Other.TheVariants.{Note, Caller}
 use Rattle.hm_core.specs.Stepping.{seat_of, act_of, IsAct, IsAwake, IsHeld, MayMeet, HasSeat, MayHoldMore, IsTaken, Fits}
 use Rattle.hm_core.specs.Running.{Moment, any_store, any_entry, core_of, index_of, own_part, own_view, IsSound}
-use Rattle.hm_core.specs.Taking.{let_go_of, IsAdmitted, Moves, Becomes, Takes}
+use Rattle.hm_core.specs.Taking.{let_go_of, IsAdmitted, Becomes, Takes}
 use Rattle.hm_core.proofs.Moments.{awake_below, look_index, view_from}
 use Rattle.hm_core.proofs.LetGo.{split_leads, meet_leads}
 

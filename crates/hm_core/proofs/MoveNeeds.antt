@@ -8,14 +8,13 @@ use Rattle.hm_model.specs.declared.object.Name.{Name}
 use Rattle.hm_model.specs.declared.object.Contents.{Contents}
 use Rattle.hm_model.specs.declared.entry.Tried.TheVariants.{Stored, Changed}
 use Rattle.hm_model.specs.declared.entry.Entry.{Entry}
-use Rattle.hm_model.specs.declared.entry.Entry.TheVariants.{Create, Fetch, Store, StoreIf}
+use Rattle.hm_model.specs.declared.entry.Entry.TheVariants.{Fetch, Store, StoreIf}
 use Rattle.hm_model.specs.Store.{contents_of, IsThere}
 use Rattle.hm_model.specs.Effect.{Stands, caller_of}
 use Rattle.hm_model.specs.History.{store_of, AllStand}
 use Rattle.hm_model.proofs.HistoryFacts.{all_stand_parts}
 use Rattle.hm_moves.specs.declared.part.Known.{Known}
 use Rattle.hm_moves.specs.declared.part.Part.{Part}
-use Rattle.hm_moves.specs.declared.moving.Look.{Look}
 use Rattle.hm_moves.specs.declared.moving.Look.TheVariants.{LoadStamp, LoadReference, LoadNumber, LoadLink}
 use Rattle.hm_moves.specs.declared.moving.Build.TheVariants.{StoreOwn, Publish, LinkStore}
 use Rattle.hm_moves.specs.declared.moving.Act.{Act}
@@ -24,12 +23,12 @@ use Rattle.hm_moves.specs.declared.moving.Move.{Move}
 use Rattle.hm_moves.specs.Chain.{Index, link_of, lookup}
 use Rattle.hm_moves.specs.Acts.{becomes, entry_of, finds, listed, next_version, publishes, where_zero, word_of}
 use Rattle.hm_moves.specs.After.{row_of_part}
-use Rattle.hm_moves.specs.Allowed.{HasHand, HasRoom, MayHold, MayLookInto, Reads, Turns, TurnsBy, MayTake, IsLawfulMove}
+use Rattle.hm_moves.specs.Allowed.{HasHand, HasRoom, MayHold, MayLookInto, Reads, Turns, MayTake, IsLawfulMove}
 use Rattle.hm_moves.proofs.Held.{some_more}
 use Rattle.hm_moves.proofs.Heaps.{present_at}
 use Rattle.hm_core.specs.Chronicles.{name_of, HasNextStamp}
 use Rattle.hm_core.specs.declared.machine.Row.{Row}
-use Rattle.hm_core.specs.Hands.{HandState, CanHold, CanPublish, CanFollow, IsOwnWord, hand_after}
+use Rattle.hm_core.specs.Hands.{HandState, CanPublish, CanFollow, IsOwnWord, hand_after}
 use Rattle.hm_core.specs.SeatStates.{SeatState}
 use Rattle.hm_core.specs.Stepping.{IsAwake}
 use Rattle.hm_core.specs.Running.{Moment, any_store, any_entry, core_of, hand_at, index_of, known_with, own_part, own_view, row_at, row_with, seat_at, seat_with, IsSound}
