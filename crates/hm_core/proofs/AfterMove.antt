@@ -1,6 +1,6 @@
 -- The plain data after a move: they tell the state after it, and are sound.
-use Rattle.std.proofs.Common.{◌≡◌, ◌≢◌, ◌<◌, ◌≤◌, ◌+◌, ◌*◌, ◌==◌, ℕ, zero, suc, List, [], ◌∷◌, ◌++◌, length, map, take, set, Option, Some, None, IfSome, if◌then◌else◌, eq-eqb, ne_eqb, refl, sym, ap, ◌∙◌, subst, arith, append-nil, length-set, length-append, get_or-set_other, get_or-set_same}
-use Rattle.std.specs.Prelude.{slice_get, slice_index, slice_index_or, slice_set}
+use Rattle.std.proofs.Common.{◌≡◌, ◌≢◌, ◌<◌, ◌≤◌, ◌+◌, ◌==◌, ℕ, List, [], ◌∷◌, ◌++◌, length, map, take, set, Option, Some, None, IfSome, if◌then◌else◌, eq-eqb, ne_eqb, refl, sym, ap, ◌∙◌, subst, arith, length-set, length-append, get_or-set_other, get_or-set_same}
+use Rattle.std.specs.Prelude.{slice_index, slice_set}
 use Rattle.std.proofs.Math.Path.{fun_ext}
 use Rattle.std.proofs.lemmas.List.{take-append-le, take_all, set-get_or}
 use Rattle.std.proofs.lemmas.Grind.{get_or-set_at}
@@ -14,12 +14,11 @@ use Rattle.hm_model.specs.Lawful.{UsageLaws}
 use Rattle.hm_model.specs.History.{calls_of}
 use Rattle.hm_moves.specs.declared.part.Known.{Known}
 use Rattle.hm_moves.specs.declared.part.Part.{Part}
-use Rattle.hm_moves.specs.declared.part.View.{View}
 use Rattle.hm_moves.specs.declared.moving.Move.{Move}
 use Rattle.hm_moves.specs.Chain.{Index}
 use Rattle.hm_moves.specs.Places.{Places, places_with, raised}
 use Rattle.hm_moves.specs.Acts.{becomes, entry_of, finds, listed, next_version, publishes, word_of}
-use Rattle.hm_moves.specs.After.{count_of, index_with, part_after, row_of_part, seen_after, view, view_after}
+use Rattle.hm_moves.specs.After.{count_of, index_with, part_after, row_of_part, seen_after, view}
 use Rattle.hm_moves.specs.Allowed.{HasRoom, IsLawfulMove}
 use Rattle.hm_moves.specs.Good.{Core, Good, PartIsGood, applied}
 use Rattle.hm_moves.proofs.Histories.{IsBy, calls_after}

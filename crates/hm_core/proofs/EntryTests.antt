@@ -25,7 +25,7 @@ use Rattle.hm_moves.specs.declared.moving.Act.TheVariants.{Looks, Builds}
 use Rattle.hm_moves.specs.Acts.{field_look, next_version}
 use Rattle.hm_moves.specs.Allowed.{next_name, MayLookInto, HasRoom, Reads, Turns, MayTake, MayLook, IsBuilt, IsWritten, AreKnown}
 use Rattle.hm_core.specs.declared.step.StepKind.{StepKind}
-use Rattle.hm_core.specs.declared.step.StepKind.TheVariants.{LoadField, LoadLink, StoreOwn, Publish, LinkStore, Split, Meet}
+use Rattle.hm_core.specs.declared.step.StepKind.TheVariants.{LoadField, LoadLink, StoreOwn, Publish, LinkStore}
 use Rattle.hm_core.specs.Stepping.{act_of, later_contents, later_known, IsAwake, IsLookable, HoldsWhatItNeeds, HasPlace, IsPlain, Fits}
 use Rattle.hm_core.specs.Running.{Moment, core_of, index_of, own_part, own_view, IsSound}
 use Rattle.hm_core.proofs.Moments.{only_one, look_index}

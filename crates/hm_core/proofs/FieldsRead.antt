@@ -1,5 +1,5 @@
 -- What code reads of the fields is what the moment has that they tell.
-use Rattle.std.proofs.Common.{◌≡◌, ◌<◌, ◌≤◌, ℕ, List, length, get_or, sym, ap, ◌∙◌, subst, arith}
+use Rattle.std.proofs.Common.{◌≡◌, ◌<◌, ℕ, List, length, get_or, sym, ap, ◌∙◌, subst, arith}
 use Rattle.std.proofs.lemmas.List.{get_or_default}
 use Rattle.hm_core.specs.declared.machine.Row.{Row}
 use Rattle.hm_core.specs.Hands.{HandState, no_hand}

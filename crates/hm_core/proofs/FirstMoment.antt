@@ -1,5 +1,5 @@
 -- The moment that a fresh machine tells: it is fresh, and sound.
-use Rattle.std.proofs.Common.{◌≡◌, ◌≢◌, ◌<◌, ◌≤◌, ◌+◌, ◌-◌, ◌*◌, ◌==◌, ℕ, zero, suc, eq-eqb, ne_eqb, List, [], ◌∷◌, ◌++◌, length, map, get_or, set, take, replicate, Option, Some, None, if◌then◌else◌, refl, sym, ap, ◌∙◌, subst, arith, ⊎_elim, suc-mul}
+use Rattle.std.proofs.Common.{◌≡◌, ◌≢◌, ◌<◌, ◌≤◌, ◌-◌, ◌*◌, ℕ, zero, suc, ne_eqb, List, [], ◌∷◌, ◌++◌, length, map, get_or, take, replicate, Option, Some, None, refl, sym, ap, ◌∙◌, subst, arith, ⊎_elim, suc-mul}
 use Rattle.std.specs.Prelude.{slice_get}
 use Rattle.std.proofs.Math.Path.{fun_ext}
 use Rattle.std.proofs.lemmas.Nat.{mul-lt}

@@ -1,5 +1,5 @@
 -- Tests of versions by their number, their word and their name.
-use Rattle.std.proofs.Common.{◌≡◌, ◌↔◌, ◌<◌, ◌≤◌, ◌+◌, ◌==◌, ◌&&◌, ◌||◌, ◌⊎◌, ℕ, suc, Bool, true, false, not, filter, eq-eqb, eqb-true, List, [], ◌∷◌, ◌++◌, length, Option, Some, None, IsTrue, IfSome, Contains, refl, sym, ap, ◌∙◌, subst, arith, inl, inr, ⊎_elim}
+use Rattle.std.proofs.Common.{◌≡◌, ◌↔◌, ◌≤◌, ◌==◌, ◌&&◌, ◌||◌, ℕ, Bool, true, false, not, eq-eqb, eqb-true, List, [], ◌∷◌, length, Option, Some, None, IsTrue, IfSome, Contains, refl, sym, ap, ◌∙◌, subst, arith, ⊎_elim}
 use Rattle.std.specs.List.{list_any}
 use Rattle.std.proofs.lemmas.List.Filters.{length-filter_both}
 use Rattle.std.proofs.Math.Bool.{not-not}
@@ -10,7 +10,7 @@ use Rattle.hm_model.specs.Store.{is_same}
 use Rattle.hm_model.proofs.StoreFacts.{same_names, is_same-self}
 use Rattle.hm_moves.specs.declared.part.Known.{Known}
 use Rattle.hm_moves.specs.After.{is_version, without, with_held}
-use Rattle.hm_moves.specs.Allowed.{Names, Spells}
+use Rattle.hm_moves.specs.Allowed.{Spells}
 use Rattle.hm_moves.proofs.Held.{contains_first, contains_here, contains_behind}
 use Rattle.hm_core.specs.Hands.{HandState, HasVersion, CanHold, holding}
 

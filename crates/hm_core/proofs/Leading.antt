@@ -25,7 +25,7 @@ use Rattle.hm_core.specs.declared.step.Other.{Other}
 use Rattle.hm_core.specs.declared.step.Other.TheVariants.{Note, Caller}
 use Rattle.hm_core.specs.Stepping.{seat_of, act_of, IsAct, IsAwake, IsHeld, MayMeet, HasSeat, MayHoldMore, IsTaken, Fits}
 use Rattle.hm_core.specs.Running.{Moment, any_store, any_entry, core_of, index_of, own_part, own_view, IsSound}
-use Rattle.hm_core.specs.Taking.{let_go_of, IsAdmitted, Moves, Becomes, Takes}
+use Rattle.hm_core.specs.Taking.{let_go_of, IsAdmitted, Becomes, Takes}
 use Rattle.hm_core.proofs.Moments.{awake_below, look_index, view_from}
 use Rattle.hm_core.proofs.LetGo.{split_leads, meet_leads}
 
@@ -85,7 +85,7 @@ module _ (m : Moment) (sound : IsSound m) (q : ℕ)
       subst (λ (z : Option Known). IfSome z (Contains p.hands.held)) (sym at) c
 
   -- an admitted step that is an act is a lawful move
-  pub act_may : (step : Step) (a : Act) (o : Option Known) → act_of (index_of m.known) p step.kind ≡ Some a
+  act_may : (step : Step) (a : Act) (o : Option Known) → act_of (index_of m.known) p step.kind ≡ Some a
       → o ≡ let_go_of m step.let_go → MayHoldMore p step.kind → Fits (core_of m) p step.kind
       → IfSome step.let_go (IsHeld p)
       → IsLawfulMove any_store any_entry m.history p record { act = a; let_go = o }
@@ -104,13 +104,22 @@ module _ (m : Moment) (sound : IsSound m) (q : ℕ)
       }
 
   -- the seat that is met is another one, and there
-  pub meets_other : (o : Other) → MayMeet (core_of m) m.shape.callers q o
+  meets_other : (o : Other) → MayMeet (core_of m) m.shape.callers q o
       → (seat_of m.shape.callers o ≢ q) × (seat_of m.shape.callers o < length m.seats)
   meets_other (Note i) (w, there, nonempty) =
       let low = awake_below m sound q awake in
       let t = view_from m (m.shape.callers + i) w there in
       let inside = slice_get_within m.seats (m.shape.callers + i) t.0 t.1 in ((λ same. omega arith), inside)
   meets_other (Caller r) (below, ne, alone) = let size = sound.seats_size in (ne, omega arith)
+
+-- the seat that an admitted step meets
+pub step_meets : (m : Moment) (sound : IsSound m) (step : Step) (o : Other) → step.kind ≡ Meet o
+    → IsAdmitted m step
+    → (seat_of m.shape.callers o ≢ step.caller) × (seat_of m.shape.callers o < length m.seats)
+step_meets m sound step o is ok =
+    let first = ok refused.Caller (omega arith) in
+    meets_other m sound step.caller first.0 o
+    (subst (λ (k : StepKind). HasSeat (core_of m) m.shape.callers step.caller k) is first.1)
 
 -- the move of an admitted step
 pub step_may : (m : Moment) (sound : IsSound m) (step : Step) (a : Act) (o : Option Known)

@@ -1,6 +1,6 @@
 -- The plain data after a caller let go of a version, and its seat was then split or joined with another.
-use Rattle.std.proofs.Common.{◌≡◌, ◌≢◌, ◌<◌, ◌≤◌, ◌+◌, ℕ, zero, suc, Bool, true, false, List, [], ◌∷◌, ◌++◌, length, map, take, set, get_or, nat_lt, if◌then◌else◌, Option, Some, None, refl, sym, ap, ◌∙◌, subst, arith, append-nil, length-set, length-append, get_or-set_other, get_or-set_same}
-use Rattle.std.specs.Prelude.{slice_get, slice_index_or, slice_set}
+use Rattle.std.proofs.Common.{◌≡◌, ◌≢◌, ◌<◌, ◌≤◌, ℕ, zero, suc, Bool, true, false, List, [], ◌∷◌, ◌++◌, length, map, take, set, get_or, nat_lt, if◌then◌else◌, Option, None, refl, sym, ap, ◌∙◌, subst, arith, append-nil, length-set, length-append, get_or-set_other, get_or-set_same}
+use Rattle.std.specs.Prelude.{slice_index_or, slice_set}
 use Rattle.std.proofs.lemmas.List.{set-get_or, length-take-le, map-append, map-set}
 use Rattle.std.proofs.lemmas.Option.{slice_get-get_or}
 use native.Mathlib.Decide.{ℕ_discrete}
@@ -24,7 +24,7 @@ use Rattle.hm_core.specs.Running.{Moment, any_store, any_entry, core_of, hand_at
 use Rattle.hm_core.specs.Taking.{core_letting, seat_letting, split_off, joined_to}
 use Rattle.hm_core.proofs.Moments.{awake_below, view_at}
 use Rattle.hm_core.proofs.FieldsRead.{hand_read, seat_read, other_read}
-use Rattle.hm_core.proofs.CallerChanged.{other_view, own_parts, own_there, to_same, views_set}
+use Rattle.hm_core.proofs.CallerChanged.{other_view, own_parts, to_same, views_set}
 use Rattle.hm_core.proofs.AfterMove.{any_laws}
 
 -- no seat has seen more than so much

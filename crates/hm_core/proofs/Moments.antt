@@ -11,7 +11,7 @@ use Rattle.hm_moves.specs.declared.part.Known.{Known}
 use Rattle.hm_moves.specs.declared.part.Part.{Part}
 use Rattle.hm_moves.specs.declared.part.View.{View}
 use Rattle.hm_moves.specs.Chain.{IsPublished}
-use Rattle.hm_moves.specs.Places.{IsFit, row_count}
+use Rattle.hm_moves.specs.Places.{IsFit}
 use Rattle.hm_moves.specs.Good.{PartIsGood}
 use Rattle.hm_shape.specs.declared.version.Version.{Version}
 use Rattle.hm_model.specs.Store.{made_count}

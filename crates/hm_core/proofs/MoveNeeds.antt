@@ -8,14 +8,13 @@ use Rattle.hm_model.specs.declared.object.Name.{Name}
 use Rattle.hm_model.specs.declared.object.Contents.{Contents}
 use Rattle.hm_model.specs.declared.entry.Tried.TheVariants.{Stored, Changed}
 use Rattle.hm_model.specs.declared.entry.Entry.{Entry}
-use Rattle.hm_model.specs.declared.entry.Entry.TheVariants.{Create, Fetch, Store, StoreIf}
+use Rattle.hm_model.specs.declared.entry.Entry.TheVariants.{Fetch, Store, StoreIf}
 use Rattle.hm_model.specs.Store.{contents_of, IsThere}
 use Rattle.hm_model.specs.Effect.{Stands, caller_of}
 use Rattle.hm_model.specs.History.{store_of, AllStand}
 use Rattle.hm_model.proofs.HistoryFacts.{all_stand_parts}
 use Rattle.hm_moves.specs.declared.part.Known.{Known}
 use Rattle.hm_moves.specs.declared.part.Part.{Part}
-use Rattle.hm_moves.specs.declared.moving.Look.{Look}
 use Rattle.hm_moves.specs.declared.moving.Look.TheVariants.{LoadStamp, LoadReference, LoadNumber, LoadLink}
 use Rattle.hm_moves.specs.declared.moving.Build.TheVariants.{StoreOwn, Publish, LinkStore}
 use Rattle.hm_moves.specs.declared.moving.Act.{Act}
@@ -24,12 +23,12 @@ use Rattle.hm_moves.specs.declared.moving.Move.{Move}
 use Rattle.hm_moves.specs.Chain.{Index, link_of, lookup}
 use Rattle.hm_moves.specs.Acts.{becomes, entry_of, finds, listed, next_version, publishes, where_zero, word_of}
 use Rattle.hm_moves.specs.After.{row_of_part}
-use Rattle.hm_moves.specs.Allowed.{HasHand, HasRoom, MayHold, MayLookInto, Reads, Turns, TurnsBy, MayTake, IsLawfulMove}
+use Rattle.hm_moves.specs.Allowed.{HasHand, HasRoom, MayHold, MayLookInto, Reads, Turns, MayTake, IsLawfulMove}
 use Rattle.hm_moves.proofs.Held.{some_more}
 use Rattle.hm_moves.proofs.Heaps.{present_at}
 use Rattle.hm_core.specs.Chronicles.{name_of, HasNextStamp}
 use Rattle.hm_core.specs.declared.machine.Row.{Row}
-use Rattle.hm_core.specs.Hands.{HandState, CanHold, CanPublish, CanFollow, IsOwnWord, hand_after}
+use Rattle.hm_core.specs.Hands.{HandState, CanPublish, CanFollow, IsOwnWord, hand_after}
 use Rattle.hm_core.specs.SeatStates.{SeatState}
 use Rattle.hm_core.specs.Stepping.{IsAwake}
 use Rattle.hm_core.specs.Running.{Moment, any_store, any_entry, core_of, hand_at, index_of, known_with, own_part, own_view, row_at, row_with, seat_at, seat_with, IsSound}
@@ -194,60 +193,67 @@ row_small m sound row =
     mul-le-mul_left m.shape.versions freed in
     let few = m.shape.versions_fit in (omega arith, omega arith)
 
-module _ (a m : Moment) (same : a ≡ m) (sound : IsSound m) (q : ℕ)
-    (awake : IsAwake (core_of m) q (own_view m q) (own_part m q)) (mv : Move)
-    (may : IsLawfulMove any_store any_entry m.history (own_part m q) mv) (at y : ℕ)
-    (word : at ≡ word_of (own_part m q) mv.act) (low : at < length m.words) (got : y ≡ get_or a.words at y) where
+-- a word was read by the code that takes a lawful move: this one, where the moment has it
+pub record HasRead (a m : Moment) (q : ℕ) (mv : Move) (at y : ℕ) : Type 0 where
+  pub same : a ≡ m
+  pub sound : IsSound m
+  pub awake : IsAwake (core_of m) q (own_view m q) (own_part m q)
+  pub may : IsLawfulMove any_store any_entry m.history (own_part m q) mv
+  pub word : at ≡ word_of (own_part m q) mv.act
+  pub low : at < length m.words
+  pub got : y ≡ get_or a.words at y
+
+module _ {a m : Moment} {q : ℕ} {mv : Move} {at y : ℕ} (read : HasRead a m q mv at y) where
   abbrev w : ℕ
   w = slice_index m.words (word_of (own_part m q) mv.act)
 
   -- the word that was found is that of the act
   pub word_found : y ≡ slice_index m.words (word_of (own_part m q) mv.act)
   word_found =
-      read_at a.words m.words at y 0 (ap (λ (z : Moment). z.words) same) low got
-      ∙ ap (λ (i : ℕ). get_or m.words i 0) word
+      read_at a.words m.words at y 0 (ap (λ (z : Moment). z.words) read.same) read.low read.got
+      ∙ ap (λ (i : ℕ). get_or m.words i 0) read.word
 
   -- what the entry needs
   pub stands_now : (o : Option Entry) → o ≡ entry_of q mv.act y → IfSome o (Stands (store_of a.history))
   stands_now o is =
       let path : (o, a.history) ≡ (entry_of q mv.act w, m.history) =
-      λ i. ((is ∙ ap (entry_of q mv.act) word_found) i, (same i).history) in
+      λ i. ((is ∙ ap (entry_of q mv.act) word_found) i, (read.same i).history) in
       subst (λ (t : Option Entry × List Entry). IfSome t.0 (Stands (store_of t.1))) (sym path)
-      (entry_stands m sound q awake mv may)
+      (entry_stands m read.sound q read.awake mv read.may)
 
   pub stamp_now : (o : Option Entry) → o ≡ entry_of q mv.act y
       → IfSome o (λ e. HasNextStamp (store_of a.history) e (2 ^ 64))
   stamp_now o is =
       let path : (o, a.history) ≡ (entry_of q mv.act w, m.history) =
-      λ i. ((is ∙ ap (entry_of q mv.act) word_found) i, (same i).history) in
+      λ i. ((is ∙ ap (entry_of q mv.act) word_found) i, (read.same i).history) in
       subst (λ (t : Option Entry × List Entry). IfSome t.0 (λ e. HasNextStamp (store_of t.1) e (2 ^ 64)))
-      (sym path) (entry_stamp m sound q awake mv may)
+      (sym path) (entry_stamp m read.sound q read.awake mv read.may)
 
   pub caller_now : (o : Option Entry) (makers : ℕ) → o ≡ entry_of q mv.act y → makers ≡ a.shape.callers
       → IfSome o (λ e. caller_of e < makers)
   caller_now o makers is count =
       let path : (o, makers) ≡ (entry_of q mv.act w, m.shape.callers) =
-      λ i. ((is ∙ ap (entry_of q mv.act) word_found) i, (count ∙ ap (λ (z : Moment). z.shape.callers) same) i)
+      λ i. ((is ∙ ap (entry_of q mv.act) word_found) i, (count ∙ ap (λ (z : Moment). z.shape.callers) read.same) i)
       in
       subst (λ (t : Option Entry × ℕ). IfSome t.0 (λ e. caller_of e < t.1)) (sym path)
-      (entry_below m sound q awake mv may)
+      (entry_below m read.sound q read.awake mv read.may)
 
   -- and the hand
   pub follow_now : (h : HandState) (f : Option Known) → h ≡ get_or a.hands q h
       → f ≡ finds (index_of m.known) mv.act y → CanFollow h mv y f
-  follow_now h f read is =
+  follow_now h f got is =
       let path : (h, y, f) ≡ (hand_at m q, w, finds (index_of m.known) mv.act w) =
-      λ i. (hand_read a m same sound q awake h read i, word_found i, (is ∙ ap (finds (index_of m.known) mv.act) word_found) i) in
+      λ i. (hand_read a m read.same read.sound q read.awake h got i, word_found i, (is ∙ ap (finds (index_of m.known) mv.act) word_found) i) in
       subst (λ (t : HandState × ℕ × Option Known). CanFollow t.0 mv t.1 t.2) (sym path)
-      (can_follow m sound q awake mv may)
+      (can_follow m read.sound q read.awake mv read.may)
 
   -- and the index
   pub below_now : (n : Option Known) → n ≡ publishes mv.act y → IfSome n (λ k. k.version.0 < length a.known)
   below_now n is =
       let path : (n, a.known) ≡ (publishes mv.act w, m.known) =
-      λ i. ((is ∙ ap (publishes mv.act) word_found) i, (same i).known) in
+      λ i. ((is ∙ ap (publishes mv.act) word_found) i, (read.same i).known) in
       subst (λ (t : Option Known × List (Option Known)). IfSome t.0 (λ k. k.version.0 < length t.1)) (sym path)
-      (fresh_below m q mv sound awake may)
+      (fresh_below m q mv read.sound read.awake read.may)
 
   -- the plain data that the code leaves are those after the move
   pub after_is : (b row : ℕ) (known : List (Option Known)) (es : List Entry) (r r' : Row) (h h' : HandState)
@@ -272,10 +278,10 @@ module _ (a m : Moment) (same : a ≡ m) (sound : IsSound m) (q : ℕ)
       let f_is : f ≡ finds (index_of m.known) mv.act w = ef ∙ ap (finds (index_of m.known) mv.act) x_is in
       let n_is : n ≡ publishes mv.act w = en ∙ ap (publishes mv.act) x_is in
       let b_is : b ≡ becomes mv.act w = eb ∙ ap (becomes mv.act) x_is in
-      let r_is : r ≡ row_at m.rows (row_of_part (own_part m q)) = row_read a m same sound q awake row r lrow er
+      let r_is : r ≡ row_at m.rows (row_of_part (own_part m q)) = row_read a m read.same read.sound q read.awake row r lrow er
       ∙ ap (row_at m.rows) erow in
-      let h_is : h ≡ hand_at m q = hand_read a m same sound q awake h eh in
-      let s_is : s ≡ seat_at m q = seat_read a m same sound q awake s es' in
+      let h_is : h ≡ hand_at m q = hand_read a m read.same read.sound q read.awake h eh in
+      let s_is : s ≡ seat_at m q = seat_read a m read.same read.sound q read.awake s es' in
       (λ i. record a {
         words = set a.words at b;
         known = ek i;
@@ -284,11 +290,11 @@ module _ (a m : Moment) (same : a ≡ m) (sound : IsSound m) (q : ℕ)
         hands = set a.hands q (eh' i);
         seats = set a.seats q (es'' i);
       })
-      ∙ (λ i. record (same i) {
-        words = set (same i).words (word i) (b_is i);
-        known = known_with (same i).known (n_is i);
-        rows = set (same i).rows (erow i) (row_with (r_is i) (n_is i));
-        history = (same i).history ++ listed (o_is i);
-        hands = set (same i).hands q (hand_after (h_is i) mv (x_is i) (f_is i));
-        seats = set (same i).seats q (seat_with (s_is i) (length (same i).history) (o_is i));
+      ∙ (λ i. record (read.same i) {
+        words = set (read.same i).words (read.word i) (b_is i);
+        known = known_with (read.same i).known (n_is i);
+        rows = set (read.same i).rows (erow i) (row_with (r_is i) (n_is i));
+        history = (read.same i).history ++ listed (o_is i);
+        hands = set (read.same i).hands q (hand_after (h_is i) mv (x_is i) (f_is i));
+        seats = set (read.same i).seats q (seat_with (s_is i) (length (read.same i).history) (o_is i));
       })

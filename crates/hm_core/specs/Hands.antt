@@ -6,7 +6,6 @@ use Rattle.hm_moves.specs.declared.part.Known.{Known}
 use Rattle.hm_moves.specs.declared.part.Draft.{Draft}
 use Rattle.hm_moves.specs.declared.part.Hands.{Hands}
 use Rattle.hm_moves.specs.declared.part.TheConstants.{MOST_HELD}
-use Rattle.hm_moves.specs.declared.moving.Build.{Build}
 use Rattle.hm_moves.specs.declared.moving.Build.TheVariants.{StoreOwn}
 use Rattle.hm_moves.specs.declared.moving.Act.{Act}
 use Rattle.hm_moves.specs.declared.moving.Act.TheVariants.{Builds}

@@ -1,5 +1,5 @@
 -- The running machine: its plain data, and the moment of the heap that they tell.
-use Rattle.std.specs.Prelude.{◌≡◌, ℕ, ◌+◌, ◌≤◌, ◌<◌, List, [], length, map, take, slice_index_or, slice_set, Option, Some, None}
+use Rattle.std.specs.Prelude.{◌≡◌, ℕ, ◌+◌, ◌≤◌, ◌<◌, List, length, map, take, slice_index_or, slice_set, Option, Some, None}
 use Rattle.hm_shape.specs.declared.shape.Shape.{Shape}
 use Rattle.hm_shape.specs.Versions.{version_count}
 use Rattle.hm_model.specs.declared.object.Start.{Start}

@@ -5,9 +5,9 @@ use lib.ListN.{get_elem?}
 use Rattle.hm_shape.specs.declared.version.Version.{Version}
 use Rattle.hm_shape.specs.declared.version.TheConstants.{VERSION_WORDS}
 use Rattle.hm_model.specs.declared.object.Contents.{Contents}
-use Rattle.hm_model.specs.declared.entry.Tried.TheVariants.{Stored, Changed}
+use Rattle.hm_model.specs.declared.entry.Tried.TheVariants.{Stored}
 use Rattle.hm_model.specs.declared.entry.Entry.{Entry}
-use Rattle.hm_model.specs.declared.entry.Entry.TheVariants.{Create, Fetch, Store, StoreIf}
+use Rattle.hm_model.specs.declared.entry.Entry.TheVariants.{Create, Store, StoreIf}
 use Rattle.hm_model.specs.Store.{IsThere}
 use Rattle.hm_model.specs.Effect.{caller_of, new_contents, with_field, with_all}
 use Rattle.hm_model.specs.History.{store_of}

@@ -5,7 +5,6 @@ use Rattle.hm_model.specs.declared.usage.AnyUsage.{AnyUsage}
 use Rattle.hm_moves.specs.declared.part.Known.{Known}
 use Rattle.hm_moves.specs.declared.part.View.{View}
 use Rattle.hm_moves.specs.declared.moving.Act.{Act}
-use Rattle.hm_moves.specs.Chain.{Index}
 use Rattle.hm_moves.specs.Acts.{word_of}
 use Rattle.hm_moves.specs.After.{view_letting}
 use Rattle.hm_moves.specs.Good.{Core, applied, released, split, joined}

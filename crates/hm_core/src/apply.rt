@@ -2,8 +2,8 @@
 ghost use Rattle.std.specs.Prelude.{◌≡◌, IfOk, IfErr, OnOk, OnErr};
 
 use crate::machine::Machine;
-use hm_moves::{Known, Move};
 use crate::step::{Other, Step, StepKind, StepRefused};
+use hm_moves::{Known, Move};
 use hm_shape::Version;
 use std::alloc::AllocError;
 

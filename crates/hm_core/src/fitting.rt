@@ -7,9 +7,9 @@ ghost use Rattle.hm_model.specs.declared.entry.Tried.TheVariants.{Changed};
 
 use crate::contents::{new_contents, with_all, with_field};
 use crate::machine::Machine;
-use hm_moves::Known;
 use crate::step::StepKind;
 use hm_model::{Contents, Entry, Field, Name, Tried};
+use hm_moves::Known;
 use hm_shape::{FIRST_NUMBER, FIRST_REFERENCE, LINK, STAMP, Version};
 
 impl Machine {

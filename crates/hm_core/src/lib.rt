@@ -1,14 +1,15 @@
 //! The pure machine whose steps the shared heap takes, as plain data that run.
 //!
-//! A [`Step`] gives a kind of step with the numbers of versions. `specs/Stepping.antt` tells which act it is, and the
-//! conditions under which it is accepted, in the order in which they are tested.
+//! A [`Step`] gives a kind of step with the numbers of versions. `specs/Stepping.antt` tells which act it is and what it
+//! needs, and `specs/Taking.antt` has these conditions in the order in which they are tested.
 //!
-//! [`Machine`] takes these steps on plain data: the words, what is known of the version of each number, the history
-//! with the plain store that it leaves, what each caller holds and has written, and how much each seat has seen
-//! (`specs/Running.antt`). [`Machine::apply`] refuses a step for the first condition that fails, and else leaves the
-//! state that the cuts make (`specs/Taking.antt`). A version is found by its number, and an object by its name, in
-//! constant time. [`machine_after`] has the safety rule after every list of steps, that chains end (`specs/Ends.antt`),
-//! and that the list was played step by step (`specs/Playing.antt`).
+//! [`Machine`] takes these steps on plain data: the words, what is known of the version of each number, what is counted
+//! of each region, the history with the plain store that it leaves, each caller's draft and the versions that it may
+//! look into, and how much each seat has seen (`specs/Running.antt`). [`Machine::apply`] refuses a step for the first
+//! condition that fails, and else leaves the state that the cuts make. What is known of a version is found by its
+//! number, and an object by its name, in constant time; the versions that a caller holds or has published are searched.
+//! [`machine_after`] has the safety rule after every list of steps, that chains end, and that the list was played step
+//! by step (`specs/Playing.antt`).
 #![tactic(auto)]
 
 mod apply;

@@ -4,9 +4,9 @@ ghost use Rattle.hm_shape.specs.declared.version.TheConstants.{VERSION_WORDS};
 
 use crate::chronicle::Chronicle;
 use crate::hand::Hand;
-use hm_moves::{Known, MOST_HELD};
 use crate::seat::Seat;
 use hm_model::{Contents, Name, Start};
+use hm_moves::{Known, MOST_HELD};
 use hm_shape::{Shape, VERSION_WORDS, Version};
 use std::alloc::{AllocError, Global};
 use std::marker::Model;

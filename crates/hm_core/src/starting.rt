@@ -14,10 +14,9 @@ use crate::contents::new_contents;
 use crate::cuts::create_of;
 use crate::hand::Hand;
 use crate::machine::{Machine, Memory, Row};
-
-use hm_moves::{Known, first_words};
 use crate::seat::Seat;
 use hm_model::{Name, Start};
+use hm_moves::{Known, first_words};
 use hm_shape::{Shape, Version};
 use std::alloc::{AllocError, Global};
 

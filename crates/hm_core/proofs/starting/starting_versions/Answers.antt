@@ -1,10 +1,7 @@
 -- The side objects are added one after another, then the common object.
-use Rattle.std.proofs.Common.{◌≡◌, ◌∷◌, ◌++◌, [], List, ℕ, Option, None, get_or, length, sym, subst, rules}
+use Rattle.std.proofs.Common.{◌≡◌, ◌∷◌, [], List, Option, None, get_or, length, sym, subst, rules}
 use Rattle.hm_model.specs.Store.{Numbers, Refs}
-use Rattle.hm_model.specs.Effect.{new_contents}
 use Rattle.hm_moves.specs.declared.part.Known.{Known}
-use Rattle.hm_moves.specs.Fresh.{starting_known}
-use Rattle.hm_moves.proofs.Fresh.{sides_length}
 use Rattle.hm_moves.proofs.FirstWords.{four_sides}
 use Rattle.hm_core.proofs.FirstVersions.{AreAdded, all_added, none_added, one_added}
 use Rattle.hm_core.specs.Firsts.{AddsSide}

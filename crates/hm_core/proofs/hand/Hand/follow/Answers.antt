@@ -1,8 +1,7 @@
 -- There is a place for the version that is found or published.
-use Rattle.hm_moves.specs.Acts.{publishes}
 use Rattle.std.proofs.Common.{Option, IfSome, ◌≡◌, None, sym, subst}
 use Rattle.hm_moves.specs.declared.part.Known.{Known}
-use Rattle.hm_core.specs.Hands.{CanHold, CanPublish}
+use Rattle.hm_core.specs.Hands.{CanHold}
 use Rattle.hm_core.proofs.HeldTests.{can_still, can_also}
 use Rattle.hm_core.proofs.hand.Hand.follow.Goals as goal
 

@@ -1,4 +1,4 @@
-use Rattle.std.proofs.Common.{rules, ◌≡◌, ◌==◌, Some, inl, inr, ⊎_elim}
+use Rattle.std.proofs.Common.{rules, ◌≡◌, ◌==◌, Some, inr, ⊎_elim}
 use Rattle.std.specs.List.{list_any}
 use Rattle.hm_shape.specs.Words.{naming_word}
 use Rattle.hm_core.proofs.HeldTests.{names_iff, NamesOne, tested}

@@ -1,5 +1,5 @@
 -- A version that is held already is not listed again.
-use Rattle.std.proofs.Common.{rules, ◌≡◌, Option, Some, true, not, sym, ap, ◌∙◌}
+use Rattle.std.proofs.Common.{rules, ◌≡◌, Option, true, sym, ap, ◌∙◌}
 use Rattle.std.specs.List.{list_any}
 use Rattle.hm_moves.specs.declared.part.Known.{Known}
 use Rattle.hm_moves.specs.After.{is_version, with_held}
