@@ -68,7 +68,8 @@ module _ {U : Type 0} where
   -- a kind is an act of its caller, with the versions as they are known
   abbrev pub act_of : Index → Part U → StepKind → Option Act
   act_of index p (LoadField v i scan) = option_map (λ at. Looks (field_look at i)) (index v.0)
-  act_of index p (LoadLink v entry scan) = option_map (λ at. Looks (look.LoadLink at entry)) (index v.0)
+  act_of index p (LoadLink v entry scan) =
+      option_map (λ at. Looks (look.LoadLink at entry)) (index v.0)
   act_of index p (StoreOwn i word) = Some (Builds (build.StoreOwn i word))
   act_of index p (Publish entry) =
       option_map (λ fresh. Builds (build.Publish fresh)) (first_known (next_version p) entry)

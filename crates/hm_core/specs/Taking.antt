@@ -65,7 +65,8 @@ pub record Leaves (c : Core AnyUsage) (n : Moment) (word : ℕ) : Type 0 where
 abbrev pub Becomes : Moment → Moment → Step → ℕ → StepKind → Type 0
 Becomes m n step word Split = Leaves (split_off m step.caller (let_go_of m step.let_go)) n word
 Becomes m n step word (Meet other) =
-    Leaves (joined_to m step.caller (let_go_of m step.let_go) (seat_of m.shape.callers other)) n word
+    Leaves
+    (joined_to m step.caller (let_go_of m step.let_go) (seat_of m.shape.callers other)) n word
 Becomes m n step word kind = Moves m n step word
 
 -- the refusals in the order in which their conditions are tested

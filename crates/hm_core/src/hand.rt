@@ -33,7 +33,8 @@ impl Model for Hand {
 
     ghost Value = { HandState };
 
-    ghost view = { λ h. hand_by h.room h.region h.used h.written h.held.items h.own.items h.left.items };
+    ghost view = { λ h. hand_by h.room h.region h.used h.written
+        h.held.items h.own.items h.left.items };
 
     ghost invariant = { λ h. IsLaidOut
         (hand_by h.room h.region h.used h.written h.held.items h.own.items h.left.items)
