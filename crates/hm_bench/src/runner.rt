@@ -42,8 +42,11 @@ impl<'c> Model for Runner<'c> {
 }
 
 impl<'c> Runner<'c> {
+    ghost use Rattle.hm_cells.specs.Facts.{Fits, IsAtRest};
+
     pub fn new(cells: &'c Cells<AnyUsage>, pass: Pass<AnyUsage>, call: Call) -> Runner<'c>
-        requires { IsResting pass cells.now }
+        requires fits { Fits pass cells.now }
+        requires rest { IsAtRest pass }
     {
         Runner {
             cells,
