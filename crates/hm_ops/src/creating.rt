@@ -5,6 +5,7 @@ ghost use Rattle.hm_model.specs.Calls.{Creates, MayCreate};
 ghost use Rattle.hm_cells.specs.Facts.{sight_of};
 ghost use Rattle.hm_ops.specs.Resting.{IsResting, Keeps};
 
+use crate::placing::settle;
 use crate::writing::draft;
 use hm_cells::{Cells, Pass, publish};
 use hm_model::{Full, Root, Usage};
@@ -34,7 +35,6 @@ pub fn create<U: Usage>(
     }
     draft(cells, pass, refs, numbers);
     let made = publish(cells, pass);
-    pass.set_root(into, made);
-    pass.release(made);
+    settle(pass, into, made);
     Ok(())
 }

@@ -1,4 +1,4 @@
-use Rattle.hm_ops.proofs.Replaces.{finds_changed, may_try, stores_all}
+use Rattle.hm_ops.proofs.ConditionalStores.{finds_changed, may_try, stores_all}
 use Rattle.hm_ops.proofs.replacing.store_if.Goals as goal
 
 pub try_replace-requires-clause-allowed : goal.try_replace-requires-clause-allowed

@@ -1,4 +1,4 @@
-use Rattle.hm_ops.proofs.Changes.{may_store, stores}
+use Rattle.hm_ops.proofs.FieldStores.{may_store, stores}
 use Rattle.hm_ops.proofs.storing.store.Goals as goal
 
 pub try_store-requires-clause-allowed : goal.try_store-requires-clause-allowed

@@ -1,4 +1,4 @@
-use Rattle.hm_ops.proofs.Walks.{walk_ends}
+use Rattle.hm_ops.proofs.Fetches.{walk_ends}
 use Rattle.hm_ops.proofs.walking.walk.Goals as goal
 
 pub returns : goal.returns

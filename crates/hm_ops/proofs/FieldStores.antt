@@ -17,7 +17,7 @@ use Rattle.hm_cells.specs.Calls.{field_of, stored}
 use Rattle.hm_ops.specs.Resting.{IsAtPlace, Keeps}
 use Rattle.hm_ops.specs.Storing.{Ends}
 use Rattle.hm_ops.proofs.Settled.{root_named}
-use Rattle.hm_ops.proofs.Walks.{placed_held}
+use Rattle.hm_ops.proofs.LinkSteps.{placed_held}
 
 module _ {U : Type 0} where
   -- a field is the same to passes that others see alike
