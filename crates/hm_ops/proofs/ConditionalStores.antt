@@ -13,12 +13,11 @@ use Rattle.hm_model.proofs.CallFacts.{finds_changed_enters, stores_all_enters}
 use Rattle.hm_moves.specs.declared.part.Known.{Known}
 use Rattle.hm_cells.specs.Facts.{Facts, Made, known_at, room_of, sight_of}
 use Rattle.hm_cells.specs.Calls.{IsWholeCopy}
-use Rattle.hm_ops.specs.Resting.{IsAtPlace, IsRooted, Keeps}
-use Rattle.hm_ops.specs.Walking.{Reads, contents_at}
+use Rattle.hm_ops.specs.Resting.{IsRooted}
+use Rattle.hm_ops.specs.Walking.{HasCome, Reads, contents_at}
 use Rattle.hm_ops.specs.Writing.{Roots}
 use Rattle.hm_ops.specs.Storing.{Copies, Ends, tried_at}
-use Rattle.hm_ops.proofs.Settled.{root_named}
-use Rattle.hm_ops.proofs.LinkSteps.{placed_held}
+use Rattle.hm_ops.proofs.LinkSteps.{come_named}
 
 module _ {U : Type 0} (lawful : U → PlainStore → Type 0) (allowed : U → PlainStore → Entry → Type 0)
     (m : Made U) where
@@ -72,9 +71,12 @@ module _ {U : Type 0} (lawful : U → PlainStore → Type 0) (allowed : U → Pl
 
   -- a pass has walked to a version
   module _ (s p : Facts U) (at : Root) (v : Version) (stamp : ℕ) (refs : Places) (numbers : Numbers)
-      (same : sight_of p ≡ sight_of s) (place : IsAtPlace p at.0 v) (k : Keeps lawful allowed p m) where
+      (come : HasCome lawful allowed m s at v p) where
+    same : sight_of p ≡ sight_of s
+    same = come.same
+
     named : root_of (sight_of p) at ≡ Some (known_at p v).name
-    named = root_named p at.0 v place (placed_held lawful allowed m p at.0 v k place)
+    named = come_named lawful allowed m s p at v come
 
     pub may_try : MayStoreIf lawful allowed (sight_of s) at stamp refs numbers
         → MayEnter lawful allowed (sight_of p) (tried_at p v stamp refs numbers Stored)

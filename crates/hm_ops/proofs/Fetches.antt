@@ -11,31 +11,27 @@ use Rattle.hm_model.specs.Calls.{Fetches, FetchesAll}
 use Rattle.hm_model.proofs.CallFacts.{fetches_enters, fetches_rests}
 use Rattle.hm_moves.specs.declared.part.Known.{Known}
 use Rattle.hm_cells.specs.Facts.{Facts, Made, known_at, sight_of}
-use Rattle.hm_ops.specs.Resting.{IsAtPlace, Keeps}
-use Rattle.hm_ops.specs.Walking.{IsLast, Reads, Walks, contents_at}
-use Rattle.hm_ops.proofs.LinkSteps.{placed_held}
-use Rattle.hm_ops.proofs.Settled.{root_named}
+use Rattle.hm_ops.specs.Walking.{HasCome, IsLast, Reads, Walks, contents_at}
+use Rattle.hm_ops.proofs.LinkSteps.{come_named}
 
 module _ {U : Type 0} (lawful : U → PlainStore → Type 0) (allowed : U → PlainStore → Entry → Type 0)
     (m : Made U) where
   -- a walk ends at the last version, where the object is fetched
-  pub walk_ends : (s p t : Facts U) (r : Root) (v : Version) → sight_of p ≡ sight_of s → IsAtPlace p r.0 v
-      → Keeps lawful allowed p m
+  pub walk_ends : (s p t : Facts U) (r : Root) (v : Version) → HasCome lawful allowed m s r v p
       → IsLast lawful allowed m p v
       (Some (Fetch p.part.number (known_at p v).name (known_at p v).contents)) t
       → Walks lawful allowed m s r v t
-  walk_ends s p t r v same at k last =
+  walk_ends s p t r v come last =
       let room = last.room in
       record {
-        fetch = subst (λ (c : Sight U). Fetches lawful allowed c (sight_of t) r (known_at t v).contents) same
+        fetch = subst (λ (c : Sight U). Fetches lawful allowed c (sight_of t) r (known_at t v).contents) come.same
             (subst (λ (n : Known). Fetches lawful allowed (sight_of p) (sight_of t) r n.contents)
             (sym last.known)
             (fetches_enters lawful allowed (sight_of p) (sight_of t) r (known_at p v).contents
-            (known_at p v).name
-            (root_named p r.0 v at (placed_held lawful allowed m p r.0 v k at)) last.tells
+            (known_at p v).name (come_named lawful allowed m s p r v come) last.tells
             record { falls = omega arith; by_one = omega arith; kept = λ _. room }));
-        names = last.names ∙ ap (λ (c : Sight U). c.roots) same;
-        place = ap (λ (l : List (Option Version)). get_or l r.0 None) last.roots ∙ at;
+        names = last.names ∙ ap (λ (c : Sight U). c.roots) come.same;
+        place = ap (λ (l : List (Option Version)). get_or l r.0 None) last.roots ∙ come.place;
         keeps = last.keeps;
       }
 

@@ -1,7 +1,6 @@
 -- Loads of what a version holds.
-use Rattle.std.proofs.Common.{◌≡◌, ◌<◌, ◌+◌, ℕ, List, [], ◌∷◌, length, get_or, slice_index, Option, Some, None, Contains, refl, sym, ap, ◌∙◌, subst, arith, inl, get_or-set_other, ◌++◌, option_to_list, zero}
+use Rattle.std.proofs.Common.{◌≡◌, ◌<◌, ◌+◌, ℕ, List, [], ◌∷◌, length, get_or, slice_index, Option, Some, None, refl, sym, ap, ◌∙◌, subst, arith, inl, get_or-set_other, ◌++◌, IfSome}
 use Rattle.std.proofs.lemmas.List.{ext_get_or}
-use Rattle.std.proofs.lemmas.List.Elements.{All-contains}
 use Rattle.hm_shape.specs.declared.version.Version.{Version}
 use Rattle.hm_model.specs.declared.entry.Entry.{Entry}
 use Rattle.hm_model.specs.declared.root.Root.{Root}
@@ -18,7 +17,8 @@ use Rattle.hm_cells.proofs.Stepped.{kept_held, kept_stays, held_lookable, known_
 use Rattle.hm_ops.specs.Resting.{IsRooted, IsRootedBeside, Keeps, Works}
 use Rattle.hm_ops.specs.Walking.{Reads, ReadsInto, contents_at, TakesReference}
 use Rattle.hm_ops.proofs.OneStep.{keeps_none, roots_kept, same_sight}
-use Rattle.hm_ops.proofs.Settled.{settled_keeps, OnceSettled, HasTaken, cleared_keeps, taken_hand}
+use Rattle.hm_ops.proofs.Settled.{OnceSettled, placed_keeps, alone_in_hand, alone_left}
+use Rattle.hm_ops.specs.Placing.{IsInHand}
 
 -- lists of one length that are the same at each place
 pub same_list : {A : Type 0} (xs ys : List A) (n : ℕ) (d : A) → length xs ≡ n → length ys ≡ n
@@ -64,12 +64,13 @@ module _ {U : Type 0} (lawful : U → PlainStore → Type 0) (allowed : U → Pl
         number_is = took_number.what.0
 
   -- a reference was loaded into the hand, and goes on into a root place
-  module _ (s t : Facts U) (v : Version) (i : ℕ) (named : Option Version) (into : Root)
-      (takes : TakesReference s v i named t) (beside : IsRootedBeside into.0 s v) where
-    read_into : (hand : List Version) (u : Facts U) → u ≡ with_hand (with_root t into named) hand
+  module _ (s t : Facts U) (v : Version) (i : ℕ) (into : Root) (beside : IsRootedBeside into.0 s v)
+      (works : Works lawful allowed t m) where
+    read_into : (named : Option Version) (hand : List Version) (u : Facts U) → TakesReference s v i named t
+        → hand ≡ [] → IfSome named (IsHeldAt t) → u ≡ with_hand (with_root t into named) hand
         → SetsRoot (sight_of t) (sight_of u) into.0 (place_name t.part.hands.held named)
-        → Rests (sight_of t) (sight_of u) → Keeps lawful allowed u m → ReadsInto lawful allowed m s v i into.0 u
-    read_into hand u is names rests keeps = record {
+        → Rests (sight_of t) (sight_of u) → ReadsInto lawful allowed m s v i into.0 u
+    read_into named hand u takes empty held is names rests = record {
       rests = subst (λ (c : Sight U). Rests c (sight_of u)) takes.stays.same rests;
       names = subst (SetsRoot (sight_of s) (sight_of u) into.0) takes.name
           (subst (λ (c : Sight U). SetsRoot c (sight_of u) into.0 (place_name t.part.hands.held named))
@@ -78,44 +79,25 @@ module _ {U : Type 0} (lawful : U → PlainStore → Type 0) (allowed : U → Pl
           ∙ (get_or-set_other t.roots into.0 r named None other
           ∙ ap (λ (l : List (Option Version)). get_or l r None) takes.stays.roots);
       known = ap (λ (f : Facts U). known_at f v) is ∙ (takes.stays.known v (inl (beside.0, beside.2))).1;
-      keeps = keeps;
+      keeps = subst (λ (f : Facts U). Keeps lawful allowed f m) (sym is)
+          (placed_keeps lawful allowed m t into named hand works empty held);
     }
 
     -- where it named a version
-    pub some_read : (next : Version) → named ≡ Some next → s.hand ≡ [] → Works lawful allowed t m
+    pub some_read : (next : Version) → TakesReference s v i (Some next) t → s.hand ≡ []
         → OnceSettled t into next (ReadsInto lawful allowed m s v i into.0)
-    some_read next is empty works =
-        let has : HasTaken lawful allowed m t next (known_at t next) = record {
-          works = works;
-          held = All-contains (IsHeldAt t) t.hand next works.sound.handed
-              (subst (λ (l : List Version). Contains l next) (sym one) (zero, omega arith, refl));
-          known = refl;
-          hand = one;
-        } in
+    some_read next takes empty =
+        let one : t.hand ≡ next ∷ [] = takes.hand ∙ ap (λ (l : List Version). l ++ next ∷ []) empty in
+        let hand : IsInHand t next = alone_in_hand lawful allowed m t next works.sound one in
         record {
-          hand = taken_hand lawful allowed m t into next (known_at t next) has;
-          then = λ u settles. read_into (without_first next t.hand) u
-              (settles.pass ∙ ap (λ (o : Option Version). with_hand (with_root t into o)
-              (without_first next t.hand)) (sym is))
-              (subst (λ (o : Option Version). SetsRoot (sight_of t) (sight_of u) into.0
-              (place_name t.part.hands.held o)) (sym is) settles.names)
-              settles.same
-              (subst (λ (f : Facts U). Keeps lawful allowed f m) (sym settles.pass)
-              (settled_keeps lawful allowed m t into next (known_at t next) has));
+          hand = hand;
+          then = λ u settles. read_into (Some next) (without_first next t.hand) u takes
+              (alone_left next t.hand one) hand.0 settles.pass settles.names settles.same;
         }
-      where
-        one : t.hand ≡ next ∷ []
-        one = takes.hand ∙ (λ j. empty j ++ option_to_list (is j))
 
     -- where it named none
-    pub none_read : (u : Facts U) → named ≡ None → s.hand ≡ [] → Works lawful allowed t m
+    pub none_read : (u : Facts U) → TakesReference s v i None t → s.hand ≡ []
         → SetsRoot (sight_of t) (sight_of u) into.0 None → Rests (sight_of t) (sight_of u)
         → u ≡ with_root t into None → ReadsInto lawful allowed m s v i into.0 u
-    none_read u is empty works names rests put =
-        let hand : t.hand ≡ [] = takes.hand ∙ (λ j. empty j ++ option_to_list (is j)) in
-        read_into t.hand u (put ∙ ap (λ (o : Option Version). with_root t into o) (sym is))
-        (subst (λ (o : Option Version). SetsRoot (sight_of t) (sight_of u) into.0
-        (place_name t.part.hands.held o)) (sym is) names)
-        rests
-        (subst (λ (f : Facts U). Keeps lawful allowed f m) (sym put)
-        (cleared_keeps lawful allowed m t into works hand))
+    none_read u takes empty names rests put =
+        read_into None t.hand u takes (takes.hand ∙ ap (λ (l : List Version). l ++ []) empty) tt put names rests

@@ -6,7 +6,7 @@ use Rattle.hm_model.specs.declared.object.Name.{Name}
 use Rattle.hm_model.specs.declared.entry.Entry.{Entry}
 use Rattle.hm_model.specs.declared.root.Root.{Root}
 use Rattle.hm_model.specs.Store.{PlainStore}
-use Rattle.hm_model.specs.Sight.{Sight, Enters, name_at}
+use Rattle.hm_model.specs.Sight.{Sight, Enters, name_at, root_of}
 use Rattle.hm_moves.specs.declared.part.Known.{Known}
 use Rattle.hm_moves.specs.declared.part.Site.{Site}
 use Rattle.hm_moves.specs.declared.moving.Act.{Act}
@@ -24,7 +24,7 @@ use Rattle.hm_cells.proofs.Found.{same_version}
 use Rattle.hm_cells.proofs.Stepped.{kept_held, kept_stays, held_lookable, known_fit}
 use Rattle.hm_ops.specs.Resting.{IsAtPlace, Keeps}
 use Rattle.hm_ops.specs.Placing.{settled}
-use Rattle.hm_ops.specs.Walking.{GoesOn, IsLast}
+use Rattle.hm_ops.specs.Walking.{GoesOn, HasCome, IsLast}
 use Rattle.hm_ops.specs.Storing.{Ends}
 use Rattle.hm_ops.proofs.OneStep.{keeps_none, room_kept, roots_kept, same_sight, site_kept}
 use Rattle.hm_ops.proofs.Settled.{HasTaken, OnceSettled, found_taken, new_taken, place_below, root_named, settled_keeps, settled_same, taken_hand}
@@ -72,6 +72,12 @@ module _ {U : Type 0} (lawful : U → PlainStore → Type 0) (allowed : U → Pl
       IsLookable s v
   placed_look s r v k at = held_lookable lawful allowed s v (placed_held s r v k at)
 
+  -- where a walk has come to a version, its place has the name of that version's object
+  pub come_named : (s p : Facts U) (r : Root) (v : Version) → HasCome lawful allowed m s r v p
+      → root_of (sight_of p) r ≡ Some (known_at p v).name
+  come_named s p r v come =
+      root_named p r.0 v come.place (placed_held p r.0 v come.keeps come.place)
+
   module _ (s t : Facts U) (r : Root) (v : Version) (k : Keeps lawful allowed s m) (at : IsAtPlace s r.0 v)
       (after : IsSound lawful allowed t) where
     -- a link of 0 is the last
@@ -113,20 +119,23 @@ module _ {U : Type 0} (lawful : U → PlainStore → Type 0) (allowed : U → Pl
           let roots : t.roots ≡ s.roots = roots_kept lawful allowed s t act (next.0 + 1) took in
           let low : r.0 < length t.roots = place_below t.roots r.0 v
           (ap (λ (l : List (Option Version)). get_or l r.0 None) roots ∙ at) in
-          let fit = known_fit lawful allowed t next after (held_lookable lawful allowed t next has.held) in
+          let hand = taken_hand lawful allowed m t r next linked.known has in
+          let fit = known_fit lawful allowed t next after (held_lookable lawful allowed t next hand.0) in
           let low_rank : (known_at t next).rank < rank_limit m.site.shape 0 =
           subst (λ (x : Site U). (known_at t next).rank < rank_limit x.shape 0) has.works.fits.site fit.rank in
           let rank : (known_at t next).rank ≡ linked.known.rank = ap (λ (n : Known). n.rank) has.known in
           let later = linked.later in
           record {
-            hand = taken_hand lawful allowed m t r next linked.known has;
+            hand = hand;
             then = λ u settles. subst (GoesOn lawful allowed m s r v next) (sym settles.pass) record {
-              same = settled_same lawful allowed m t r next linked.known has
-                  (was_named took.names ∙ ap (λ (n : Name). Some n) (sym linked.same))
-                  ∙ same_sight lawful allowed s t act (next.0 + 1) took no_entry nothing;
-              place = get_or-set_same t.roots r.0 (Some next) None low;
+              come = record {
+                same = settled_same lawful allowed m t r next linked.known has
+                    (was_named took.names ∙ ap (λ (n : Name). Some n) (sym linked.same))
+                    ∙ same_sight lawful allowed s t act (next.0 + 1) took no_entry nothing;
+                place = get_or-set_same t.roots r.0 (Some next) None low;
+                keeps = settled_keeps lawful allowed m t r next linked.known has;
+              };
               nearer = omega arith;
-              keeps = settled_keeps lawful allowed m t r next linked.known has;
             };
           }
 

@@ -1,8 +1,8 @@
 -- A version that a step took, and what stands once it is settled at a root place.
-use Rattle.std.proofs.Common.{◌≡◌, ◌<◌, ℕ, zero, suc, List, [], ◌∷◌, length, length-set, get_or, set, eq-eqb, unwrap_or, Option, Some, None, IfSome, refl, sym, ap, ◌∙◌, arith, subst, Contains}
+use Rattle.std.proofs.Common.{◌≡◌, ◌<◌, ℕ, zero, suc, List, [], ◌∷◌, length, length-set, get_or, eq-eqb, unwrap_or, Option, Some, None, IfSome, refl, sym, ap, ◌∙◌, arith, subst, Contains}
 use Rattle.std.specs.Option.{option_map}
-use Rattle.std.proofs.lemmas.List.{map-set}
-use Rattle.std.proofs.lemmas.List.Elements.{All-set}
+use Rattle.std.proofs.Math.Seq.{map-set_same}
+use Rattle.std.proofs.lemmas.List.Elements.{All-set, All-contains}
 use Rattle.hm_shape.specs.declared.version.Version.{Version}
 use Rattle.hm_model.specs.declared.entry.Entry.{Entry}
 use Rattle.hm_model.specs.declared.root.Root.{Root}
@@ -10,9 +10,9 @@ use Rattle.hm_model.specs.Store.{PlainStore}
 use Rattle.hm_model.specs.Sight.{name_at}
 use Rattle.hm_moves.specs.declared.part.Known.{Known}
 use Rattle.hm_moves.specs.declared.moving.Act.{Act}
-use Rattle.hm_cells.specs.Facts.{Facts, Made, IsSound, IsHeldAt, find_version, known_at, names_at, nothing_known, place_name, sight_of, with_root, without_first}
+use Rattle.hm_cells.specs.Facts.{Facts, Made, IsSound, IsHeldAt, find_version, known_at, names_at, nothing_known, place_name, sight_of, with_root, without_first, with_hand}
 use Rattle.hm_cells.proofs.Found.{among, found_first}
-use Rattle.hm_cells.proofs.Rooted.{name_place, all_without}
+use Rattle.hm_cells.proofs.Rooted.{name_place}
 use Rattle.hm_ops.specs.Resting.{IsAtPlace, Keeps, Works}
 use Rattle.hm_cells.specs.Calls.{Takes}
 use Rattle.hm_ops.specs.Placing.{IsInHand, settled, Settles}
@@ -26,16 +26,9 @@ place_below [] i a e = absurd (cc)
 place_below (x ∷ xs) zero a e = omega arith
 place_below (x ∷ xs) (suc i) a e = let h = place_below xs i a e in omega arith
 
--- what a place already has, put there again
-pub set_again : {A : Type 0} (l : List (Option A)) (i : ℕ) (a : A) → get_or l i None ≡ Some a → set l i
-    (Some a) ≡ l
-set_again [] i a e = refl
-set_again (x ∷ xs) zero a e = λ k. sym e k ∷ xs
-set_again (x ∷ xs) (suc i) a e = λ k. x ∷ set_again xs i a e k
-
 -- a hand of one version is empty without it
-hand_empty : (v : Version) → without_first v (v ∷ []) ≡ []
-hand_empty v = rw (eq-eqb v.0 v.0 refl) refl
+pub alone_left : (v : Version) (hand : List Version) → hand ≡ v ∷ [] → without_first v hand ≡ []
+alone_left v hand one = ap (without_first v) one ∙ rw (eq-eqb v.0 v.0 refl) refl
 
 module _ {U : Type 0} where
   -- a held version is known by its number
@@ -65,45 +58,47 @@ module _ {U : Type 0} where
 
 module _ {U : Type 0} (lawful : U → PlainStore → Type 0) (allowed : U → PlainStore → Entry → Type 0)
     (m : Made U) where
-  -- a pass is sound where a root place names a held version instead, or none
-  placed_sound : (s : Facts U) (r : Root) (v : Option Version) → IsSound lawful allowed s
-      → IfSome v (IsHeldAt s) → IsSound lawful allowed (with_root s r v)
-  placed_sound s r v sound held = record {
-    sure = sound.sure;
-    count = sound.count;
-    places = sound.places;
-    apart = sound.apart;
-    wide = length-set s.roots r.0 v ∙ sound.wide;
-    rooted = All-set (λ (o : Option Version). IfSome o (IsHeldAt s)) s.roots r.0 v held sound.rooted;
-    handed = sound.handed;
-  }
+  -- a pass at work rests where a root place names a held version instead, or none, and its hand is empty
+  pub placed_keeps : (s : Facts U) (r : Root) (v : Option Version) (hand : List Version) → Works lawful allowed s m
+      → hand ≡ [] → IfSome v (IsHeldAt s) → Keeps lawful allowed (with_hand (with_root s r v) hand) m
+  placed_keeps s r v hand works empty held =
+      let sound = works.sound in
+      let none : length hand ≡ 0 = ap (λ (l : List Version). length l) empty in
+      record {
+        resting = record {
+          fits = record { cells = works.fits.cells; site = works.fits.site };
+          rest = record { hand = empty; few = works.few };
+        };
+        sound = record {
+          sure = sound.sure;
+          count = sound.count;
+          places = sound.places;
+          apart = sound.apart;
+          wide = length-set s.roots r.0 v ∙ sound.wide;
+          rooted = All-set (λ (o : Option Version). IfSome o (IsHeldAt s)) s.roots r.0 v held sound.rooted;
+          handed = λ k d low. absurd (omega arith);
+        };
+      }
 
-  -- it rests where a place is cleared, and nothing is in hand
-  pub cleared_keeps : (s : Facts U) (r : Root) → Works lawful allowed s m → s.hand ≡ []
-      → Keeps lawful allowed (with_root s r None) m
-  cleared_keeps s r works empty = record {
-    resting = record {
-      fits = record { cells = works.fits.cells; site = works.fits.site };
-      rest = record { hand = empty; few = works.few };
-    };
-    sound = placed_sound s r None works.sound tt;
-  }
+  -- a version that is alone in hand is held
+  pub alone_in_hand : (t : Facts U) (v : Version) → IsSound lawful allowed t → t.hand ≡ v ∷ [] → IsInHand t v
+  alone_in_hand t v sound one =
+      let c : Contains t.hand v = subst (λ (l : List Version). Contains l v) (sym one) (zero, omega arith, refl) in
+      (All-contains (IsHeldAt t) t.hand v sound.handed c, c)
 
   -- a step took one version, which is known, and alone in hand
   pub record HasTaken (t : Facts U) (v : Version) (n : Known) : Type 0 where
     pub works : Works lawful allowed t m
-    pub held : IsHeldAt t v
     pub known : known_at t v ≡ n
     pub hand : t.hand ≡ v ∷ []
 
   module _ (s t : Facts U) (act : Act) (x : ℕ) (k : Keeps lawful allowed s m) (after : IsSound lawful allowed t)
       (took : Takes lawful allowed s act x t) (v : Version) (n : Known) (is : n.version ≡ v) where
-    taken_by : IsHeldAt t n.version → known_at t n.version ≡ n → t.hand ≡ n.version ∷ [] → HasTaken t v n
-    taken_by held known hand = subst (λ (w : Version). HasTaken t w n) is record {
+    taken_by : known_at t n.version ≡ n → t.hand ≡ n.version ∷ [] → HasTaken t v n
+    taken_by known hand = subst (λ (w : Version). HasTaken t w n) is record {
       works =
           let one : length t.hand ≡ 1 = ap (λ (l : List Version). length l) hand in
           works_one lawful allowed s t act x took m (rest_works lawful allowed s m k) after (omega arith);
-      held = held;
       known = known;
       hand = hand;
     }
@@ -111,53 +106,33 @@ module _ {U : Type 0} (lawful : U → PlainStore → Type 0) (allowed : U → Pl
     -- the version that it found
     pub found_taken : took.found ≡ Some n → publishes act x ≡ None → HasTaken t v n
     found_taken found nothing =
-        let h = found_held lawful allowed s t act x k.sound after took n found in
-        taken_by h.0 h.1
+        taken_by (found_held lawful allowed s t act x k.sound after took n found).1
         (hand_taken lawful allowed s t act x took (Some n) None k.resting.rest.hand found nothing)
 
     -- or the one that it published
     pub new_taken : took.found ≡ None → publishes act x ≡ Some n → HasTaken t v n
     new_taken none new =
-        let h = new_held lawful allowed s t act x k.sound after took n new in
-        taken_by h.0 h.1
+        taken_by (new_held lawful allowed s t act x k.sound after took n new).1
         (hand_taken lawful allowed s t act x took None (Some n) k.resting.rest.hand none new)
 
   module _ (t : Facts U) (r : Root) (v : Version) (n : Known) (has : HasTaken t v n) where
     -- it may be settled
     pub taken_hand : IsInHand t v
-    taken_hand = (
-      has.held,
-      subst (λ (l : List Version). Contains l v) (sym has.hand) (zero, omega arith, refl),
-    )
+    taken_hand = alone_in_hand t v has.works.sound has.hand
 
     -- by its name
     pub taken_name : place_name t.part.hands.held (Some v) ≡ Some n.name
-    taken_name = held_name t v has.held ∙ ap (λ (k : Known). Some k.name) has.known
+    taken_name = held_name t v taken_hand.0 ∙ ap (λ (k : Known). Some k.name) has.known
 
-    -- which others see no more than before where the place had that name
+    -- others see nothing of that where the place had the name before
     pub settled_same : name_at (names_at t) r.0 ≡ Some n.name → sight_of (settled t r v) ≡ sight_of t
-    settled_same was = λ i. record (sight_of t) { roots = names i }
-      where
-        names : names_at (settled t r v) ≡ names_at t
-        names = map-set (place_name t.part.hands.held) t.roots r.0 (Some v)
-            ∙ (ap (set (names_at t) r.0) taken_name ∙ set_again (names_at t) r.0 n.name was)
+    settled_same was =
+        let name = place_name t.part.hands.held in
+        let same : name (Some v) ≡ name (get_or t.roots r.0 None) =
+        taken_name ∙ (sym was ∙ name_place t.part.hands.held t.roots r.0) in
+        λ i. record (sight_of t) { roots = map-set_same name t.roots r.0 (Some v) None same i }
 
-    -- the pass rests then
+    -- and the pass rests
     pub settled_keeps : Keeps lawful allowed (settled t r v) m
-    settled_keeps = record {
-      resting = record {
-        fits = record { cells = has.works.fits.cells; site = has.works.fits.site };
-        rest = record { hand = ap (without_first v) has.hand ∙ hand_empty v; few = has.works.few };
-      };
-      sound =
-          let sound = placed_sound t r (Some v) has.works.sound has.held in
-          record {
-            sure = sound.sure;
-            count = sound.count;
-            places = sound.places;
-            apart = sound.apart;
-            wide = sound.wide;
-            rooted = sound.rooted;
-            handed = all_without (IsHeldAt t) v t.hand sound.handed;
-          };
-    }
+    settled_keeps = placed_keeps t r (Some v) (without_first v t.hand) has.works (alone_left v t.hand has.hand)
+        taken_hand.0

@@ -46,12 +46,16 @@ module _ {U : Type 0} where
       pub place : IsAtPlace t r.0 v
       pub keeps : Keeps lawful allowed t m
 
-    -- a walk goes on to the next version, which the place names instead
-    pub record GoesOn (s : Facts U) (r : Root) (v next : Version) (t : Facts U) : Type 0 where
+    -- a walk has come to a version: its root place names that, and nothing shows to others
+    pub record HasCome (s : Facts U) (r : Root) (v : Version) (t : Facts U) : Type 0 where
       pub same : sight_of t ≡ sight_of s
-      pub place : IsAtPlace t r.0 next
-      pub nearer : ahead m t next < ahead m s v
+      pub place : IsAtPlace t r.0 v
       pub keeps : Keeps lawful allowed t m
+
+    -- a walk goes on from a version to the next one, which is nearer to the last
+    pub record GoesOn (s : Facts U) (r : Root) (v next : Version) (t : Facts U) : Type 0 where
+      pub come : HasCome s r next t
+      pub nearer : ahead m t next < ahead m s v
 
     -- no version lies behind one: the wanted entry is made, and without one nothing shows to others
     pub record IsLast (s : Facts U) (v : Version) (want : Option Entry) (t : Facts U) : Type 0 where

@@ -15,9 +15,6 @@ use hm_shape::Version;
 
 /// Writes the caller's next version as a copy of a version at a root place, with one field changed and the stamp
 /// raised.
-///
-/// What the references name stays in hand until the copy is written, since a word counts as written only while what it
-/// names is held.
 pub(crate) fn copy_changed<U: Usage>(
     cells: &Cells<U>,
     pass: &mut Pass<U>,
@@ -33,6 +30,7 @@ pub(crate) fn copy_changed<U: Usage>(
 {
     let stamp = read_stamp(cells, pass, v);
     let mut numbers = read_numbers(cells, pass, v);
+    // In hand until the copy is written: a word counts as written only while what it names is held.
     let named = take_references(cells, pass, v);
     let mut words = words_of(named);
     match field {
@@ -40,7 +38,7 @@ pub(crate) fn copy_changed<U: Usage>(
         WantField::Refer { i, value } => words[i as usize] = reference_word(pass, value),
     }
     write_copy(cells, pass, stamp, words, numbers);
-    // A release takes no step, so all of it is held still when the copy is linked.
+    // Only now, and without a step: what the words name is held still when the copy is linked.
     release_all(pass, named);
 }
 

@@ -30,9 +30,11 @@ pub fn create<U: Usage>(
     ensures same { Continues U.lawful U.allowed (sight_of pass.old) (sight_of pass.new) }
     ensures keeps { Keeps U.lawful U.allowed pass.new cells.now }
 {
+    // Asked before the first step, so that Full changes nothing.
     if pass.room() == 0 {
         return Err(Full);
     }
+    // All words but the link: once that is stored, the version is published and nothing of it may change.
     draft(cells, pass, refs, numbers);
     let made = publish(cells, pass);
     settle(pass, into, made);

@@ -30,6 +30,7 @@ pub(crate) fn look<U: Usage>(
         (wanted pass.old (known_at pass.old v) want) result pass.new }
 {
     let next = load_link(cells, pass, v, want, false)?;
+    // The version before may be named by nothing then, and is not looked into again.
     settle(pass, at, next);
     Some(next)
 }
@@ -60,6 +61,7 @@ pub(crate) fn link<U: Usage>(
             None
         }
         Err(next) => {
+            // The copy is written anew, on this version.
             settle(pass, at, next);
             Some(next)
         }

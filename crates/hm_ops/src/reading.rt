@@ -41,6 +41,7 @@ pub(crate) fn read_numbers<U: Usage>(cells: &Cells<U>, pass: &mut Pass<U>, v: Ve
     ensures reads { Reads U.lawful U.allowed cells.now pass.old v pass.new }
 {
     let mut numbers = [0; 10];
+    // In any order, and beside any store: no word of a published version changes.
     for i in 0..10u32 {
         numbers[i as usize] = read_number(cells, pass, v, i);
     }
@@ -82,6 +83,7 @@ pub(crate) fn read_reference<U: Usage>(
 {
     match take_reference(cells, pass, v, i) {
         Some(next) => {
+            // What the place named before may be let go of then, but not `v`, which another place names.
             settle(pass, into, next);
             true
         }
@@ -109,6 +111,7 @@ pub(crate) fn read_references<U: Usage>(
     ensures keeps { Keeps U.lawful U.allowed pass.new cells.now }
 {
     let mut set = [false; 4];
+    // Place by place: each reference has its place before the next load, which lets go of what nothing names.
     for i in 0..4u32 {
         set[i as usize] = read_reference(cells, pass, v, i, Root(hand.0 + i));
     }
