@@ -1,15 +1,21 @@
-pub mod Between
-pub mod Creates
-pub mod Drafts
-pub mod Fetches
-pub mod Hands
-pub mod Quiet
-pub mod Readings
-pub mod References
+-- what one step leaves of a pass, and what stays at rest between two calls
+pub mod OneStep
+pub mod AtRest
+-- a version that a step took is settled at a root place
 pub mod Settled
-pub mod Walks
-pub mod Writings
-pub mod Stores
-pub mod Replaces
-pub mod Copies
-pub mod Changes
+-- loads of what a version holds, and of its references into the hand and into root places
+pub mod FieldLoads
+pub mod TakenReferences
+pub mod PlacedReferences
+-- words of the caller's next version, as they are written, and as a whole draft or copy
+pub mod WrittenWords
+pub mod WholeDrafts
+pub mod WholeCopies
+pub mod ChangedCopies
+-- loads and exchanges of links
+pub mod LinkSteps
+-- whole calls, from their steps
+pub mod Creates
+pub mod Fetches
+pub mod FieldStores
+pub mod ConditionalStores

@@ -1,16 +1,14 @@
 -- Copies: what the references of a version name is taken into the hand, while the copy is written.
-use Rattle.std.specs.Prelude.{◌≡◌, ℕ, List, [], ◌∷◌, ◌++◌, Option, Some, None, map}
-use Rattle.std.specs.Option.{option_to_list}
+use Rattle.std.specs.Prelude.{◌≡◌, List, [], ◌∷◌, Option, Some, None, map}
 use Rattle.hm_shape.specs.declared.version.Version.{Version}
 use Rattle.hm_model.specs.declared.entry.Entry.{Entry}
 use Rattle.hm_model.specs.Store.{PlainStore}
-use Rattle.hm_moves.specs.Chain.{reference_at}
 use Rattle.hm_cells.specs.declared.want.Want.TheVariants.{Store}
 use Rattle.hm_cells.specs.declared.want.WantField.{WantField}
 use Rattle.hm_cells.specs.Calls.{IsWholeCopy, turned}
-use Rattle.hm_cells.specs.Facts.{Facts, Made, IsHeldAt, known_at, place_name, sight_of}
-use Rattle.hm_ops.specs.Resting.{IsKept, Works}
-use Rattle.hm_ops.specs.Walking.{contents_at}
+use Rattle.hm_cells.specs.Facts.{Facts, Made, known_at, place_name, sight_of}
+use Rattle.hm_ops.specs.Resting.{Works}
+use Rattle.hm_ops.specs.Walking.{Stays, contents_at}
 
 -- the versions that are given, of which some may be none
 abbrev pub given : List (Option Version) → List Version
@@ -19,19 +17,6 @@ given (None ∷ vs) = given vs
 given (Some v ∷ vs) = v ∷ given vs
 
 module _ {U : Type 0} where
-  -- a step shows nothing to others, and what is kept stays held and known
-  pub record Stays (s t : Facts U) : Type 0 where
-    pub same : sight_of t ≡ sight_of s
-    pub roots : t.roots ≡ s.roots
-    pub known : (v : Version) → IsKept s v → IsHeldAt t v × (known_at t v ≡ known_at s v)
-
-  -- what a reference of a version names is in hand
-  pub record TakesReference (s : Facts U) (v : Version) (i : ℕ) (named : Option Version)
-      (t : Facts U) : Type 0 where
-    pub stays : Stays s t
-    pub hand : t.hand ≡ s.hand ++ option_to_list named
-    pub name : place_name t.part.hands.held named ≡ reference_at (contents_at s v) i
-
   -- a version is copied into the caller's next version, with one field changed and the stamp raised
   pub record CopiesChanged (s : Facts U) (v : Version) (field : WantField) (t : Facts U)
       : Type 0 where

@@ -1,4 +1,5 @@
 pub mod Resting
+pub mod Placing
 pub mod Walking
 pub mod Writing
 pub mod Storing

@@ -1,5 +1,6 @@
 -- Walks along links, and loads of what a version holds.
-use Rattle.std.specs.Prelude.{◌≡◌, ◌≢◌, ℕ, ◌-◌, ◌<◌, Option, Some, None, slice_index_or}
+use Rattle.std.specs.Prelude.{◌≡◌, ◌≢◌, ℕ, ◌-◌, ◌<◌, ◌++◌, Option, Some, None, slice_index_or}
+use Rattle.std.specs.Option.{option_to_list}
 use Rattle.hm_shape.specs.declared.version.Version.{Version}
 use Rattle.hm_moves.specs.Places.{rank_limit}
 use Rattle.hm_moves.specs.Allowed.{done_seen}
@@ -10,9 +11,9 @@ use Rattle.hm_model.specs.Store.{PlainStore}
 use Rattle.hm_model.specs.Sight.{Rests, SetsRoot}
 use Rattle.hm_model.specs.Calls.{Fetches}
 use Rattle.hm_moves.specs.Chain.{reference_at}
-use Rattle.hm_cells.specs.Facts.{Facts, Made, known_at, names_at, room_of, sight_of}
+use Rattle.hm_cells.specs.Facts.{Facts, Made, IsHeldAt, known_at, names_at, place_name, room_of, sight_of}
 use Rattle.hm_cells.specs.Calls.{Tells}
-use Rattle.hm_ops.specs.Resting.{IsAtPlace, Keeps}
+use Rattle.hm_ops.specs.Resting.{IsAtPlace, IsKept, Keeps}
 
 module _ {U : Type 0} where
   -- what a version holds, as its pass knows it
@@ -23,6 +24,19 @@ module _ {U : Type 0} where
   abbrev pub ahead : Made U → Facts U → Version → ℕ
   ahead m s v = rank_limit m.site.shape (done_seen s.part) - (known_at s v).rank
 
+  -- a step shows nothing to others, and what is kept stays held and known
+  pub record Stays (s t : Facts U) : Type 0 where
+    pub same : sight_of t ≡ sight_of s
+    pub roots : t.roots ≡ s.roots
+    pub known : (v : Version) → IsKept s v → IsHeldAt t v × (known_at t v ≡ known_at s v)
+
+  -- what a reference of a version names is in hand
+  pub record TakesReference (s : Facts U) (v : Version) (i : ℕ) (named : Option Version)
+      (t : Facts U) : Type 0 where
+    pub stays : Stays s t
+    pub hand : t.hand ≡ s.hand ++ option_to_list named
+    pub name : place_name t.part.hands.held named ≡ reference_at (contents_at s v) i
+
   module _ (lawful : U → PlainStore → Type 0) (allowed : U → PlainStore → Entry → Type 0)
       (m : Made U) where
     -- a walk from a root place ends at a version: the place names it, and the object was fetched there
@@ -32,12 +46,16 @@ module _ {U : Type 0} where
       pub place : IsAtPlace t r.0 v
       pub keeps : Keeps lawful allowed t m
 
-    -- a walk goes on to the next version, which the place names instead
-    pub record GoesOn (s : Facts U) (r : Root) (v next : Version) (t : Facts U) : Type 0 where
+    -- a walk has come to a version: its root place names that, and nothing shows to others
+    pub record HasCome (s : Facts U) (r : Root) (v : Version) (t : Facts U) : Type 0 where
       pub same : sight_of t ≡ sight_of s
-      pub place : IsAtPlace t r.0 next
-      pub nearer : ahead m t next < ahead m s v
+      pub place : IsAtPlace t r.0 v
       pub keeps : Keeps lawful allowed t m
+
+    -- a walk goes on from a version to the next one, which is nearer to the last
+    pub record GoesOn (s : Facts U) (r : Root) (v next : Version) (t : Facts U) : Type 0 where
+      pub come : HasCome s r next t
+      pub nearer : ahead m t next < ahead m s v
 
     -- no version lies behind one: the wanted entry is made, and without one nothing shows to others
     pub record IsLast (s : Facts U) (v : Version) (want : Option Entry) (t : Facts U) : Type 0 where

@@ -1,23 +1,20 @@
 //! Changed copies of a version.
-ghost use Rattle.std.specs.Prelude.{◌≡◌, ◌<◌, [], length, map};
+ghost use Rattle.std.specs.Prelude.{◌≡◌, [], map};
 ghost use Rattle.hm_shape.specs.Words.{naming_word};
 ghost use Rattle.hm_moves.specs.Allowed.{HasRoom};
 ghost use Rattle.hm_cells.specs.Calls.{MayChange};
 ghost use Rattle.hm_cells.specs.Facts.{with_hand};
-ghost use Rattle.hm_ops.specs.Resting.{IsRooted, Keeps, Works, most_working};
-ghost use Rattle.hm_ops.specs.Copying.{CopiesChanged, TakesReference, TakesReferences, given};
+ghost use Rattle.hm_ops.specs.Resting.{IsRooted, Keeps, Works};
+ghost use Rattle.hm_ops.specs.Copying.{CopiesChanged, TakesReferences, given};
 
-use crate::reading::{read_numbers, read_stamp};
+use crate::reading::{read_numbers, read_stamp, take_reference};
 use crate::writing::{reference_word, word_of, write_copy};
-use hm_cells::{Cells, Pass, WantField, load_field};
+use hm_cells::{Cells, Pass, WantField};
 use hm_model::Usage;
-use hm_shape::{FIRST_REFERENCE, Version};
+use hm_shape::Version;
 
 /// Writes the caller's next version as a copy of a version at a root place, with one field changed and the stamp
 /// raised.
-///
-/// What the references name stays in hand until the copy is written, since a word counts as written only while what it
-/// names is held.
 pub(crate) fn copy_changed<U: Usage>(
     cells: &Cells<U>,
     pass: &mut Pass<U>,
@@ -33,6 +30,7 @@ pub(crate) fn copy_changed<U: Usage>(
 {
     let stamp = read_stamp(cells, pass, v);
     let mut numbers = read_numbers(cells, pass, v);
+    // In hand until the copy is written: a word counts as written only while what it names is held.
     let named = take_references(cells, pass, v);
     let mut words = words_of(named);
     match field {
@@ -40,7 +38,7 @@ pub(crate) fn copy_changed<U: Usage>(
         WantField::Refer { i, value } => words[i as usize] = reference_word(pass, value),
     }
     write_copy(cells, pass, stamp, words, numbers);
-    // A release takes no step, so all of it is held still when the copy is linked.
+    // Only now, and without a step: what the words name is held still when the copy is linked.
     release_all(pass, named);
 }
 
@@ -60,24 +58,6 @@ fn take_references<U: Usage>(
         take_reference(cells, pass, v, 2),
         take_reference(cells, pass, v, 3),
     ]
-}
-
-// Takes what reference `i` of a version names into the hand.
-fn take_reference<U: Usage>(
-    cells: &Cells<U>,
-    pass: &mut Pass<U>,
-    v: Version,
-    i: u32,
-) -> Option<Version>
-    requires works { Works U.lawful U.allowed pass.old cells.now }
-    requires hand { length pass.old.hand < most_working }
-    requires rooted { IsRooted pass.old v }
-    requires reference { i < 4 }
-    ensures takes { TakesReference pass.old v i result pass.new }
-    ensures works { Works U.lawful U.allowed pass.new cells.now }
-{
-    let word = load_field(cells, pass, v, FIRST_REFERENCE + i, false);
-    Version::named(word)
 }
 
 // The words that name these versions.

@@ -5,6 +5,7 @@ ghost use Rattle.hm_model.specs.Calls.{Creates, MayCreate};
 ghost use Rattle.hm_cells.specs.Facts.{sight_of};
 ghost use Rattle.hm_ops.specs.Resting.{IsResting, Keeps};
 
+use crate::placing::settle;
 use crate::writing::draft;
 use hm_cells::{Cells, Pass, publish};
 use hm_model::{Full, Root, Usage};
@@ -29,12 +30,13 @@ pub fn create<U: Usage>(
     ensures same { Continues U.lawful U.allowed (sight_of pass.old) (sight_of pass.new) }
     ensures keeps { Keeps U.lawful U.allowed pass.new cells.now }
 {
+    // Asked before the first step, so that Full changes nothing.
     if pass.room() == 0 {
         return Err(Full);
     }
+    // All words but the link: once that is stored, the version is published and nothing of it may change.
     draft(cells, pass, refs, numbers);
     let made = publish(cells, pass);
-    pass.set_root(into, made);
-    pass.release(made);
+    settle(pass, into, made);
     Ok(())
 }

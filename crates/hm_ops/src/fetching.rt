@@ -24,6 +24,8 @@ pub fn fetch<U: Usage>(cells: &Cells<U>, pass: &mut Pass<U>, from: Root, hand: R
     ensures keeps { Keeps U.lawful U.allowed pass.new cells.now }
 {
     let at = walk(cells, pass, from);
+    // The entry is made. All fields are loaded from that one version: a store beside this hangs another behind it.
+    // A walk in between could give the stamp of one version and the numbers of another.
     let stamp = read_stamp(cells, pass, at);
     let numbers = read_numbers(cells, pass, at);
     let set = read_references(cells, pass, at, hand);

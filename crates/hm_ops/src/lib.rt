@@ -33,6 +33,7 @@ mod copying;
 mod creating;
 mod fetching;
 mod linking;
+mod placing;
 #[cfg(test)]
 mod racing;
 mod reading;

@@ -8,6 +8,7 @@ ghost use Rattle.hm_ops.specs.Resting.{IsAtPlace, Keeps};
 ghost use Rattle.hm_ops.specs.Walking.{Looks};
 ghost use Rattle.hm_ops.specs.Storing.{Steps};
 
+use crate::placing::settle;
 use hm_cells::{Cells, Pass, Want, link_store, load_link};
 use hm_model::{Root, Usage};
 use hm_shape::Version;
@@ -29,8 +30,8 @@ pub(crate) fn look<U: Usage>(
         (wanted pass.old (known_at pass.old v) want) result pass.new }
 {
     let next = load_link(cells, pass, v, want, false)?;
-    pass.set_root(at, next);
-    pass.release(next);
+    // The version before may be named by nothing then, and is not looked into again.
+    settle(pass, at, next);
     Some(next)
 }
 
@@ -56,13 +57,12 @@ pub(crate) fn link<U: Usage>(
 {
     match link_store(cells, pass, v, want) {
         Ok(made) => {
-            pass.set_root(at, made);
-            pass.release(made);
+            settle(pass, at, made);
             None
         }
         Err(next) => {
-            pass.set_root(at, next);
-            pass.release(next);
+            // The copy is written anew, on this version.
+            settle(pass, at, next);
             Some(next)
         }
     }

@@ -1,11 +1,12 @@
 //! Loads of what a version holds.
-ghost use Rattle.std.specs.Prelude.{◌≡◌, ◌+◌, ◌<◌, ◌≤◌, is_some, map, slice_index};
+ghost use Rattle.std.specs.Prelude.{◌≡◌, ◌+◌, ◌<◌, ◌≤◌, is_some, length, map, slice_index};
 ghost use Rattle.hm_model.specs.Sight.{Rests, SetsHand};
 ghost use Rattle.hm_moves.specs.Chain.{reference_at};
 ghost use Rattle.hm_cells.specs.Facts.{sight_of};
-ghost use Rattle.hm_ops.specs.Resting.{IsRooted, IsRootedBeside, IsRootedOutside, Keeps};
-ghost use Rattle.hm_ops.specs.Walking.{Reads, ReadsInto, contents_at};
+ghost use Rattle.hm_ops.specs.Resting.{IsRooted, IsRootedBeside, IsRootedOutside, Keeps, Works, most_working};
+ghost use Rattle.hm_ops.specs.Walking.{Reads, ReadsInto, TakesReference, contents_at};
 
+use crate::placing::settle;
 use hm_cells::{Cells, Pass, load_field};
 use hm_model::{Root, Usage};
 use hm_shape::{FIRST_NUMBER, FIRST_REFERENCE, STAMP, Version};
@@ -40,10 +41,29 @@ pub(crate) fn read_numbers<U: Usage>(cells: &Cells<U>, pass: &mut Pass<U>, v: Ve
     ensures reads { Reads U.lawful U.allowed cells.now pass.old v pass.new }
 {
     let mut numbers = [0; 10];
+    // In any order, and beside any store: no word of a published version changes.
     for i in 0..10u32 {
         numbers[i as usize] = read_number(cells, pass, v, i);
     }
     numbers
+}
+
+/// Takes what reference `i` of a version names into the hand.
+pub(crate) fn take_reference<U: Usage>(
+    cells: &Cells<U>,
+    pass: &mut Pass<U>,
+    v: Version,
+    i: u32,
+) -> Option<Version>
+    requires works { Works U.lawful U.allowed pass.old cells.now }
+    requires hand { length pass.old.hand < most_working }
+    requires rooted { IsRooted pass.old v }
+    requires reference { i < 4 }
+    ensures takes { TakesReference pass.old v i result pass.new }
+    ensures works { Works U.lawful U.allowed pass.new cells.now }
+{
+    let word = load_field(cells, pass, v, FIRST_REFERENCE + i, false);
+    Version::named(word)
 }
 
 /// Loads reference `i` of a version into a place, and answers whether there is one.
@@ -61,11 +81,10 @@ pub(crate) fn read_reference<U: Usage>(
     ensures value { result ≡ is_some (reference_at (contents_at pass.old v) i) }
     ensures reads { ReadsInto U.lawful U.allowed cells.now pass.old v i into.0 pass.new }
 {
-    let word = load_field(cells, pass, v, FIRST_REFERENCE + i, false);
-    match Version::named(word) {
+    match take_reference(cells, pass, v, i) {
         Some(next) => {
-            pass.set_root(into, next);
-            pass.release(next);
+            // What the place named before may be let go of then, but not `v`, which another place names.
+            settle(pass, into, next);
             true
         }
         None => {
@@ -92,6 +111,7 @@ pub(crate) fn read_references<U: Usage>(
     ensures keeps { Keeps U.lawful U.allowed pass.new cells.now }
 {
     let mut set = [false; 4];
+    // Place by place: each reference has its place before the next load, which lets go of what nothing names.
     for i in 0..4u32 {
         set[i as usize] = read_reference(cells, pass, v, i, Root(hand.0 + i));
     }

@@ -47,6 +47,7 @@ pub fn store_if<U: Usage>(
     ensures same { Continues U.lawful U.allowed (sight_of pass.old) (sight_of pass.new) }
     ensures keeps { Keeps U.lawful U.allowed pass.new cells.now }
 {
+    // Asked before the first step, so that Full changes nothing.
     if pass.room() == 0 {
         return Err(StoreIfRefused::Full);
     }
@@ -87,14 +88,18 @@ fn try_replace<U: Usage>(
         numbers,
     };
     let found = read_stamp(cells, pass, v);
+    // Another stamp is not Changed yet: a version behind this one may have the given stamp. Where there is none, the
+    // load of the link makes the entry.
     if found != stamp {
         return match look(cells, pass, at, v, want) {
             Some(next) => Attempt::Goes(next),
             None => Attempt::Changed(found),
         };
     }
+    // Without a look at the link: the exchange finds out whether this version is the last.
     rewrite(cells, pass, stamp, refs, numbers);
     match link(cells, pass, at, v, want) {
+        // The stamp of the version found is loaded next: Changed has to tell the stamp of the last one.
         Some(next) => Attempt::Goes(next),
         None => Attempt::Stored,
     }

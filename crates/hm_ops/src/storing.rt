@@ -83,6 +83,7 @@ fn store<U: Usage>(
     ensures same { Continues U.lawful U.allowed (sight_of pass.old) (sight_of pass.new) }
     ensures keeps { Keeps U.lawful U.allowed pass.new cells.now }
 {
+    // Asked before the first step, so that Full changes nothing.
     if pass.room() == 0 {
         return Err(Full);
     }
@@ -112,10 +113,12 @@ fn try_store<U: Usage>(
     ensures { Steps U.lawful U.allowed cells.now pass.old at v
         (stored pass.old (known_at pass.old v) (Store field)) 1 result pass.new }
 {
-    // A copy is sixteen stores, so it is written only where no link is there yet.
+    // A copy is sixteen stores, so it is written only where no link is there yet. The exchange asks again.
     if let Some(next) = look(cells, pass, at, v, Want::Nothing) {
         return Some(next);
     }
+    // A copy of the version that it is hung on. Where another came between, the exchange finds that, and the next
+    // attempt copies that one: hung there, this copy would undo what the other caller stored.
     copy_changed(cells, pass, v, field);
     link(cells, pass, at, v, Want::Store { field })
 }

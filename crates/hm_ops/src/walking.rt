@@ -16,6 +16,8 @@ pub(crate) fn walk<U: Usage>(cells: &Cells<U>, pass: &mut Pass<U>, from: Root) -
     ensures { Walks U.lawful U.allowed cells.now pass.old from result pass.new }
 {
     let mut at = pass.root(from).unwrap();
+    // Each look wants the Fetch: the load that finds no link is the one moment at which this version is known to be
+    // the last.
     while let Some(next) = look(cells, pass, from, at, Want::Fetch) {
         at = next;
     }

@@ -26,7 +26,9 @@ pub(crate) fn draft<U: Usage>(
     ensures drafts { Drafts pass.old refs numbers pass.new }
     ensures keeps { Keeps U.lawful U.allowed pass.new cells.now }
 {
+    // The places go on naming these versions until the object is published, so no step lets go of them.
     let words = reference_words(pass, refs);
+    // From word 1 on: the store of the link publishes the version, and comes last.
     write(cells, pass, STAMP, &[0]);
     write(cells, pass, FIRST_REFERENCE, &words);
     write(cells, pass, FIRST_NUMBER, &numbers);
@@ -52,6 +54,7 @@ pub(crate) fn write_copy<U: Usage>(
     } pass.new }
     ensures works { Works U.lawful U.allowed pass.new cells.now }
 {
+    // The link is 0 before the exchange: whoever comes to the copy loads its link, and goes where that leads.
     write(cells, pass, LINK, &[0, stamp + 1]);
     write(cells, pass, FIRST_REFERENCE, &words);
     write(cells, pass, FIRST_NUMBER, &numbers);
@@ -77,6 +80,7 @@ pub(crate) fn rewrite<U: Usage>(
     } pass.new }
     ensures keeps { Keeps U.lawful U.allowed pass.new cells.now }
 {
+    // As in draft: the places name these versions until the exchange.
     let words = reference_words(pass, refs);
     write_copy(cells, pass, stamp, words, numbers);
 }

@@ -5,7 +5,7 @@ use Rattle.hm_cells.specs.Calls.{field_of}
 use Rattle.hm_cells.specs.declared.want.WantField.{WantField}
 use Rattle.hm_ops.specs.Walking.{contents_at}
 use Rattle.hm_ops.specs.Writing.{NamesKept, name_by}
-use Rattle.hm_ops.proofs.Copies.{changed_kept, copied, given_kept, number_changed, read_all, reference_changed}
+use Rattle.hm_ops.proofs.ChangedCopies.{changed_kept, copied, given_kept, number_changed, read_all, reference_changed}
 use Rattle.hm_ops.proofs.copying.copy_changed.Goals as goal
 use Rattle.hm_ops.proofs.copying.copy_changed.Goals.{in-Number, in-Refer}
 

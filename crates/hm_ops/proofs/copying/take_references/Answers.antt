@@ -1,5 +1,5 @@
 use Rattle.std.proofs.Common.{◌∷◌, [], refl}
-use Rattle.hm_ops.proofs.References.{takes_all, takes_more, takes_none}
+use Rattle.hm_ops.proofs.TakenReferences.{takes_all, takes_more, takes_none}
 use Rattle.hm_ops.proofs.copying.take_references.Goals as goal
 
 pub returns : goal.returns

@@ -1,9 +1,9 @@
-use Rattle.std.proofs.Common.{Option, sym, subst, ap, Contains, List}
+use Rattle.std.proofs.Common.{Option, sym, subst}
 use Rattle.hm_shape.specs.declared.version.Version.{Version}
 use Rattle.hm_cells.specs.Calls.{wanted}
-use Rattle.hm_cells.specs.Facts.{Facts, known_at}
+use Rattle.hm_cells.specs.Facts.{known_at}
 use Rattle.hm_ops.specs.Walking.{Looks}
-use Rattle.hm_ops.proofs.Walks.{looks_last, next_held, next_taken, placed_look, walk_goes}
+use Rattle.hm_ops.proofs.LinkSteps.{look_follows, looks_last, placed_look}
 use Rattle.hm_ops.proofs.linking.look.Goals as goal
 
 pub load_link-requires-clause-look : goal.load_link-requires-clause-look
@@ -21,23 +21,14 @@ returns-in_err-next g c =
     c.args.at c.args.v c.requires.keeps c.requires.place c.load_link.ensures.sound want
     c.in_err-next.ensures.took)
 
-pub set_root-requires-clause-held : goal.set_root-requires-clause-held
-set_root-requires-clause-held g c =
-    next_held g.U.Usage.lawful g.U.Usage.allowed c.args.cells.now c.args.pass.now c.load_link.new.pass
+pub settle-requires-clause-hand : goal.settle-requires-clause-hand
+settle-requires-clause-hand g c =
+    (look_follows g.U.Usage.lawful g.U.Usage.allowed c.args.cells.now c.args.pass.now c.load_link.new.pass
     c.args.at c.args.v c.requires.keeps c.requires.place c.load_link.ensures.sound _
-    c.in_ok-next.next c.in_ok-next.ensures.took
-
-pub release-requires : goal.release-requires
-release-requires g c =
-    subst (λ (l : List Version). Contains l c.in_ok-next.next)
-    (sym (ap (λ (f : Facts g.row.U.Denot). f.hand) c.set_root.ensures.pass))
-    (next_taken g.U.Usage.lawful g.U.Usage.allowed c.args.cells.now c.args.pass.now c.load_link.new.pass
-    c.args.at c.args.v c.requires.keeps c.requires.place c.load_link.ensures.sound _
-    c.in_ok-next.next c.in_ok-next.ensures.took)
+    c.in_ok-next.next c.in_ok-next.ensures.took).hand
 
 pub returns : goal.returns
 returns g c =
-    walk_goes g.U.Usage.lawful g.U.Usage.allowed c.args.cells.now c.args.pass.now c.load_link.new.pass
+    (look_follows g.U.Usage.lawful g.U.Usage.allowed c.args.cells.now c.args.pass.now c.load_link.new.pass
     c.args.at c.args.v c.requires.keeps c.requires.place c.load_link.ensures.sound _
-    c.in_ok-next.next c.in_ok-next.ensures.took c.set_root.new.self c.release.new.self
-    c.set_root.ensures.pass c.release.ensures
+    c.in_ok-next.next c.in_ok-next.ensures.took).then c.settle.new.pass c.settle.ensures

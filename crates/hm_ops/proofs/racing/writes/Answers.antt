@@ -1,7 +1,7 @@
 use Rattle.std.proofs.Common.{sym, subst}
 use Rattle.hm_model.specs.Effect.{with_field}
 use Rattle.hm_cells.specs.Calls.{IsWholeCopy}
-use Rattle.hm_ops.proofs.Changes.{field_same}
+use Rattle.hm_ops.proofs.FieldStores.{field_same}
 use Rattle.hm_ops.proofs.racing.writes.Goals as goal
 
 pub returns-clause-whole : goal.returns-clause-whole

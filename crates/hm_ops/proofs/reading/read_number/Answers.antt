@@ -1,4 +1,4 @@
-use Rattle.hm_ops.proofs.Readings.{number_is, number_read, rooted_look}
+use Rattle.hm_ops.proofs.FieldLoads.{number_is, number_read, rooted_look}
 use Rattle.hm_ops.proofs.reading.read_number.Goals as goal
 
 pub load_field-requires-clause-look : goal.load_field-requires-clause-look

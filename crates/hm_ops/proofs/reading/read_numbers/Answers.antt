@@ -1,6 +1,6 @@
 use Rattle.std.proofs.Common.{arith}
 use Rattle.hm_ops.specs.Walking.{contents_at}
-use Rattle.hm_ops.proofs.Readings.{rooted_sized, same_list}
+use Rattle.hm_ops.proofs.FieldLoads.{rooted_sized, same_list}
 use Rattle.hm_ops.proofs.reading.read_numbers.Goals as goal
 
 pub returns-clause-value : goal.returns-clause-value

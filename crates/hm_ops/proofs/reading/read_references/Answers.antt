@@ -4,8 +4,8 @@ use Rattle.hm_model.specs.declared.object.Name.{Name}
 use Rattle.hm_model.proofs.SightFacts.{rests_then}
 use Rattle.hm_cells.specs.Facts.{sight_of}
 use Rattle.hm_ops.specs.Walking.{contents_at}
-use Rattle.hm_ops.proofs.Hands.{bits_all, here_more, others_more, set_more, still_rooted}
-use Rattle.hm_ops.proofs.Readings.{rooted_sized, same_list}
+use Rattle.hm_ops.proofs.PlacedReferences.{bits_all, here_more, others_more, set_more, still_rooted}
+use Rattle.hm_ops.proofs.FieldLoads.{rooted_sized, same_list}
 use Rattle.hm_ops.proofs.reading.read_references.Goals as goal
 
 pub loop-i-preserved : goal.loop-i-preserved

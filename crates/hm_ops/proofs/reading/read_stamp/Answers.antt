@@ -2,7 +2,7 @@ use Rattle.std.proofs.Common.{refl}
 use Rattle.hm_cells.specs.Facts.{known_at}
 use Rattle.hm_moves.specs.declared.moving.Act.TheVariants.{Looks}
 use Rattle.hm_moves.specs.declared.moving.Look.TheVariants.{LoadStamp}
-use Rattle.hm_ops.proofs.Readings.{reads_plain, rooted_look}
+use Rattle.hm_ops.proofs.FieldLoads.{reads_plain, rooted_look}
 use Rattle.hm_ops.proofs.reading.read_stamp.Goals as goal
 
 pub load_field-requires-clause-look : goal.load_field-requires-clause-look

@@ -1,5 +1,5 @@
 use Rattle.std.proofs.Common.{◌≡◌, sym, ◌∙◌, rules}
-use Rattle.hm_ops.proofs.Replaces.{copy_ends, copy_may, copy_whole}
+use Rattle.hm_ops.proofs.ConditionalStores.{copy_ends, copy_may, copy_whole}
 use Rattle.hm_ops.proofs.replacing.try_replace.Goals as goal
 
 pub link-requires-clause-whole : goal.link-requires-clause-whole

@@ -1,5 +1,5 @@
 use Rattle.hm_moves.specs.Good.{longer}
-use Rattle.hm_ops.proofs.Between.{rested_rests}
+use Rattle.hm_ops.proofs.AtRest.{rested_rests}
 use Rattle.hm_ops.proofs.tests.tells.Goals as goal
 
 pub returns-clause-from : goal.returns-clause-from

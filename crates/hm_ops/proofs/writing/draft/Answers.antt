@@ -1,7 +1,7 @@
 use Rattle.std.proofs.Common.{◌≡◌, ◌+◌, ◌∙◌, length, rules}
-use Rattle.hm_ops.proofs.Drafts.{drafts_all}
-use Rattle.hm_ops.proofs.Quiet.{rest_works, work_rests}
-use Rattle.hm_ops.proofs.Writings.{places_kept, words_last}
+use Rattle.hm_ops.proofs.WholeDrafts.{drafts_all}
+use Rattle.hm_ops.proofs.OneStep.{rest_works, work_rests}
+use Rattle.hm_ops.proofs.WrittenWords.{places_kept, words_last}
 use Rattle.hm_ops.proofs.writing.draft.Goals as goal
 
 pub write-requires-clause-works : goal.write-requires-clause-works

@@ -2,9 +2,9 @@ use Rattle.std.proofs.Common.{◌+◌, ◌∙◌, ap, map, subst}
 use Rattle.hm_model.specs.Store.{Refs}
 use Rattle.hm_ops.specs.Storing.{Copies}
 use Rattle.hm_ops.specs.Writing.{name_by}
-use Rattle.hm_ops.proofs.Drafts.{names_back}
-use Rattle.hm_ops.proofs.Quiet.{rest_works, work_rests}
-use Rattle.hm_ops.proofs.Writings.{places_kept}
+use Rattle.hm_ops.proofs.WholeDrafts.{names_back}
+use Rattle.hm_ops.proofs.OneStep.{rest_works, work_rests}
+use Rattle.hm_ops.proofs.WrittenWords.{places_kept}
 use Rattle.hm_ops.proofs.writing.rewrite.Goals as goal
 
 pub write_copy-requires-clause-works : goal.write_copy-requires-clause-works

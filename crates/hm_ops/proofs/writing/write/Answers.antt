@@ -1,5 +1,5 @@
 use Rattle.std.proofs.Common.{◌+◌, slice_index, refl, arith}
-use Rattle.hm_ops.proofs.Writings.{lasting_named, lasts_same, works_stored, wrote_more}
+use Rattle.hm_ops.proofs.WrittenWords.{lasting_named, lasts_same, works_stored, wrote_more}
 use Rattle.hm_ops.proofs.writing.write.Goals as goal
 
 pub store_own-requires-clause-named : goal.store_own-requires-clause-named

@@ -1,6 +1,6 @@
 use Rattle.std.proofs.Common.{◌≡◌, ◌+◌, length, rules}
-use Rattle.hm_ops.proofs.Stores.{copies_all}
-use Rattle.hm_ops.proofs.Writings.{words_last}
+use Rattle.hm_ops.proofs.WholeCopies.{copies_all}
+use Rattle.hm_ops.proofs.WrittenWords.{words_last}
 use Rattle.hm_ops.proofs.writing.write_copy.Goals as goal
 
 pub write-requires-2-clause-lasting : goal.write-requires-2-clause-lasting

@@ -20,9 +20,9 @@ use Rattle.hm_ops.specs.Walking.{Reads, contents_at}
 use Rattle.hm_ops.specs.Writing.{NamesKept, Roots, name_by, reference_word}
 use Rattle.hm_ops.specs.Storing.{Copies}
 use Rattle.hm_ops.specs.Copying.{CopiesChanged, TakesReferences, given}
-use Rattle.hm_ops.proofs.Drafts.{name_back, word_back}
-use Rattle.hm_ops.proofs.References.{contains_given}
-use Rattle.hm_ops.proofs.Writings.{place_kept}
+use Rattle.hm_ops.proofs.WholeDrafts.{name_back, word_back}
+use Rattle.hm_ops.proofs.TakenReferences.{contains_given}
+use Rattle.hm_ops.proofs.WrittenWords.{place_kept}
 
 module _ {U : Type 0} where
   -- words that name what is in hand are kept

@@ -14,8 +14,8 @@ use Rattle.hm_cells.specs.Calls.{drafted_name, drafted_numbers, drafted_refs, dr
 use Rattle.hm_cells.proofs.Fields.{naming_in}
 use Rattle.hm_cells.proofs.Rooted.{name_place}
 use Rattle.hm_ops.specs.Writing.{Roots, Drafts, Writes, name_by, reference_word, version_of}
-use Rattle.hm_ops.proofs.Readings.{same_list}
-use Rattle.hm_ops.proofs.Writings.{places_kept, words_last}
+use Rattle.hm_ops.proofs.FieldLoads.{same_list}
+use Rattle.hm_ops.proofs.WrittenWords.{places_kept, words_last}
 
 -- the version that a word names
 pub word_back : (o : Option Version) → version_in (naming_word o) ≡ o

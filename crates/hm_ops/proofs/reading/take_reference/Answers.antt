@@ -1,6 +1,6 @@
-use Rattle.hm_ops.proofs.Readings.{rooted_look}
-use Rattle.hm_ops.proofs.References.{takes_one, works_taken}
-use Rattle.hm_ops.proofs.copying.take_reference.Goals as goal
+use Rattle.hm_ops.proofs.FieldLoads.{rooted_look}
+use Rattle.hm_ops.proofs.TakenReferences.{takes_one, works_taken}
+use Rattle.hm_ops.proofs.reading.take_reference.Goals as goal
 
 pub load_field-word-requires-clause-look : goal.load_field-word-requires-clause-look
 load_field-word-requires-clause-look g c =

@@ -19,7 +19,7 @@ use Rattle.hm_cells.proofs.Found.{found_there}
 use Rattle.hm_cells.proofs.Stepped.{held_lookable, kept_held, kept_stays, known_version, written_here, written_stays}
 use Rattle.hm_ops.specs.Resting.{IsKept, Works}
 use Rattle.hm_ops.specs.Writing.{Lasts, NamesKept, Writes, reference_word}
-use Rattle.hm_ops.proofs.Quiet.{hand_kept, roots_kept, same_sight, works_none}
+use Rattle.hm_ops.proofs.OneStep.{hand_kept, roots_kept, same_sight, works_none}
 use Rattle.hm_ops.proofs.Settled.{held_known}
 
 module _ {U : Type 0} where

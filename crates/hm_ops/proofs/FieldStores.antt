@@ -14,10 +14,9 @@ use Rattle.hm_cells.specs.declared.want.WantField.{WantField}
 use Rattle.hm_cells.specs.declared.want.WantField.TheVariants as want
 use Rattle.hm_cells.specs.Facts.{Facts, Made, known_at, sight_of}
 use Rattle.hm_cells.specs.Calls.{field_of, stored}
-use Rattle.hm_ops.specs.Resting.{IsAtPlace, Keeps}
+use Rattle.hm_ops.specs.Walking.{HasCome}
 use Rattle.hm_ops.specs.Storing.{Ends}
-use Rattle.hm_ops.proofs.Settled.{root_named}
-use Rattle.hm_ops.proofs.Walks.{placed_held}
+use Rattle.hm_ops.proofs.LinkSteps.{come_named}
 
 module _ {U : Type 0} where
   -- a field is the same to passes that others see alike
@@ -28,10 +27,13 @@ module _ {U : Type 0} where
 module _ {U : Type 0} (lawful : U → PlainStore → Type 0) (allowed : U → PlainStore → Entry → Type 0)
     (m : Made U) where
   -- a pass has walked to a version
-  module _ (s p : Facts U) (at : Root) (v : Version) (field : WantField) (same : sight_of p ≡ sight_of s)
-      (place : IsAtPlace p at.0 v) (k : Keeps lawful allowed p m) where
+  module _ (s p : Facts U) (at : Root) (v : Version) (field : WantField)
+      (come : HasCome lawful allowed m s at v p) where
+    same : sight_of p ≡ sight_of s
+    same = come.same
+
     named : root_of (sight_of p) at ≡ Some (known_at p v).name
-    named = root_named p at.0 v place (placed_held lawful allowed m p at.0 v k place)
+    named = come_named lawful allowed m s p at v come
 
     pub may_store : MayStore lawful allowed (sight_of s) at (field_of s field)
         → MayEnter lawful allowed (sight_of p) (stored p (known_at p v) (Store field))

@@ -24,10 +24,10 @@ use Rattle.hm_cells.proofs.Fields.{hand_field, named_in, small_reference}
 use Rattle.hm_cells.proofs.Found.{at_place, same_version}
 use Rattle.hm_cells.proofs.Stepped.{found_held, kept_held, kept_stays, reference_look}
 use Rattle.hm_ops.specs.Resting.{IsKept, IsRooted, Keeps, Works}
-use Rattle.hm_ops.specs.Walking.{contents_at}
-use Rattle.hm_ops.specs.Copying.{Stays, TakesReference, TakesReferences, given}
-use Rattle.hm_ops.proofs.Quiet.{roots_kept, same_sight, works_one}
-use Rattle.hm_ops.proofs.Readings.{rooted_sized, same_list}
+use Rattle.hm_ops.specs.Walking.{Stays, TakesReference, contents_at}
+use Rattle.hm_ops.specs.Copying.{TakesReferences, given}
+use Rattle.hm_ops.proofs.OneStep.{roots_kept, same_sight, works_one}
+use Rattle.hm_ops.proofs.FieldLoads.{rooted_sized, same_list}
 use Rattle.hm_ops.proofs.Settled.{held_name}
 use Rattle.hm_moves.specs.Allowed.{done_seen}
 
