@@ -1,36 +1,16 @@
 -- The plain data after a move: they tell the state after it, and are sound.
 use Rattle.std.proofs.Common.{◌≡◌, ◌≢◌, ◌<◌, ◌≤◌, ◌+◌, ◌==◌, ℕ, List, [], ◌∷◌, ◌++◌, length, map, take, set, Option, Some, None, IfSome, if◌then◌else◌, eq-eqb, ne_eqb, refl, sym, ap, ◌∙◌, subst, arith, length-set, length-append, get_or-set_other, get_or-set_same}
 use Rattle.std.specs.Prelude.{slice_index, slice_set}
-use Rattle.std.proofs.Math.Path.{fun_ext}
-use Rattle.std.proofs.lemmas.List.{take-append-le, take_all, set-get_or}
+use Rattle.hm_core.proofs.Words.{fun_ext, take-append-le, take_all, set-get_or, slice_get_within, ℕ_discrete, dite, Version, Entry, AnyUsage, calls_of, Known, Part, Move, Index, becomes, entry_of, finds, listed, next_version, publishes, word_of, row_of_part, view, HasRoom, IsLawfulMove, Core, Good, PartIsGood, IsBy, some_more, Row, HandState, hand_after, no_hand, SeatState, no_seat, IsAwake, Moment, any_store, any_entry, core_of, hand_at, index_of, known_with, no_row, own_part, own_view, places_of, row_at, row_with, seat_at, seat_view, seat_with, site_of, IsSound, IsSoundHand}
 use Rattle.std.proofs.lemmas.Grind.{get_or-set_at}
-use Rattle.std.proofs.lemmas.Option.{slice_get_within}
-use native.Mathlib.Decide.{ℕ_discrete}
-use mathlib.Core.Logic.{dite}
-use Rattle.hm_shape.specs.declared.version.Version.{Version}
-use Rattle.hm_model.specs.declared.entry.Entry.{Entry}
-use Rattle.hm_model.specs.declared.usage.AnyUsage.{AnyUsage}
 use Rattle.hm_model.specs.Lawful.{UsageLaws}
-use Rattle.hm_model.specs.History.{calls_of}
-use Rattle.hm_moves.specs.declared.part.Known.{Known}
-use Rattle.hm_moves.specs.declared.part.Part.{Part}
-use Rattle.hm_moves.specs.declared.moving.Move.{Move}
-use Rattle.hm_moves.specs.Chain.{Index}
 use Rattle.hm_moves.specs.Places.{Places, places_with, raised}
-use Rattle.hm_moves.specs.Acts.{becomes, entry_of, finds, listed, next_version, publishes, word_of}
-use Rattle.hm_moves.specs.After.{count_of, index_with, part_after, row_of_part, seen_after, view}
-use Rattle.hm_moves.specs.Allowed.{HasRoom, IsLawfulMove}
-use Rattle.hm_moves.specs.Good.{Core, Good, PartIsGood, applied}
-use Rattle.hm_moves.proofs.Histories.{IsBy, calls_after}
-use Rattle.hm_moves.proofs.Held.{some_more}
+use Rattle.hm_moves.specs.After.{count_of, index_with, part_after, seen_after}
+use Rattle.hm_moves.specs.Good.{applied}
+use Rattle.hm_moves.proofs.Histories.{calls_after}
 use Rattle.hm_moves.proofs.Heaps.{next_small, row_below}
 use Rattle.hm_moves.proofs.Finding.{entry_by, next_now}
 use Rattle.hm_moves.proofs.Steps.{good_step}
-use Rattle.hm_core.specs.declared.machine.Row.{Row}
-use Rattle.hm_core.specs.Hands.{HandState, hand_after, no_hand}
-use Rattle.hm_core.specs.SeatStates.{SeatState, no_seat}
-use Rattle.hm_core.specs.Stepping.{IsAwake}
-use Rattle.hm_core.specs.Running.{Moment, any_store, any_entry, core_of, hand_at, index_of, known_with, no_row, own_part, own_view, places_of, row_at, row_with, seat_at, seat_view, seat_with, site_of, IsSound, IsSoundHand}
 use Rattle.hm_core.proofs.Moments.{part_good, awake_below}
 use Rattle.hm_core.proofs.CallerChanged.{own_there, seen_low, to_same, views_set}
 

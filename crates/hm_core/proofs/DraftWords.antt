@@ -1,9 +1,7 @@
 -- Words of a draft that name a version no more, once that is let go.
 use Rattle.std.proofs.Common.{◌≡◌, ◌<◌, ◌≤◌, ◌+◌, ℕ, zero, suc, List, [], ◌∷◌, length, get_or, set, Option, Some, None, refl, sym, ap, ◌∙◌, subst, arith}
-use Rattle.std.proofs.lemmas.List.{length-set, get_or-set_same, get_or-set_other, ext_get_or}
-use native.Mathlib.Decide.{ℕ_discrete}
-use mathlib.Core.Logic.{dite}
-use Rattle.hm_moves.specs.declared.part.Known.{Known}
+use Rattle.hm_core.proofs.Words.{length-set, get_or-set_same, get_or-set_other, ℕ_discrete, dite, Known}
+use Rattle.std.proofs.lemmas.List.{ext_get_or}
 use Rattle.hm_moves.specs.After.{unless_named, unnamed_from, unnamed}
 
 -- words of a draft have been looked at as far as the i-th, so that none of them names a version

@@ -1,33 +1,16 @@
 -- What the tests of a step's entry tell.
 use Rattle.std.proofs.Common.{◌≡◌, ◌≢◌, ◌↔◌, ◌<◌, ◌+◌, ◌-◌, ◌==◌, ◌&&◌, ℕ, Bool, true, false, not, eqb, eqb-true, eq-eqb, List, [], ◌∷◌, nat_lt, if◌then◌else◌, Option, Some, None, IfSome, refl, sym, ap, ◌∙◌, subst, arith}
-use Rattle.std.specs.Option.{option_eq, option_map, option_and_then}
+use Rattle.hm_core.proofs.Words.{option_eq, Version, FIRST_NUMBER, FIRST_REFERENCE, Name, Contents, Stored, Changed, Entry, Create, Fetch, Store, StoreIf, AnyUsage, Refs, IsThere, is_same, new_contents, store_of, same_names, is_same-self, Known, Part, LoadStamp, LoadReference, LoadNumber, Act, Looks, Builds, next_version, next_name, MayLookInto, HasRoom, Reads, Turns, MayTake, IsBuilt, IsWritten, StepKind, act_of, IsAwake, IsLookable, Fits, Moment, core_of, index_of, own_part, own_view, IsSound}
+use Rattle.std.specs.Option.{option_map, option_and_then}
 use Rattle.std.proofs.lemmas.Bool.{ltb-true}
 use lib.Pointwise.{pointwise}
-use Rattle.hm_shape.specs.declared.version.Version.{Version}
-use Rattle.hm_shape.specs.declared.version.TheConstants.{FIRST_NUMBER, FIRST_REFERENCE, LINK, STAMP}
-use Rattle.hm_model.specs.declared.object.Name.{Name}
-use Rattle.hm_model.specs.declared.object.Contents.{Contents}
-use Rattle.hm_model.specs.declared.entry.Tried.TheVariants.{Stored, Changed}
-use Rattle.hm_model.specs.declared.entry.Entry.{Entry}
-use Rattle.hm_model.specs.declared.entry.Entry.TheVariants.{Create, Fetch, Store, StoreIf}
-use Rattle.hm_model.specs.declared.usage.AnyUsage.{AnyUsage}
-use Rattle.hm_model.specs.Store.{Refs, IsThere, is_same}
-use Rattle.hm_model.specs.Effect.{new_contents}
-use Rattle.hm_model.specs.History.{store_of}
-use Rattle.hm_model.proofs.StoreFacts.{same_names, is_same-self}
-use Rattle.hm_moves.specs.declared.part.Known.{Known}
-use Rattle.hm_moves.specs.declared.part.Part.{Part}
-use Rattle.hm_moves.specs.declared.moving.Look.TheVariants.{LoadStamp, LoadReference, LoadNumber}
+use Rattle.hm_shape.specs.declared.version.TheConstants.{LINK, STAMP}
 use Rattle.hm_moves.specs.declared.moving.Look.TheVariants as look
 use Rattle.hm_moves.specs.declared.moving.Build.TheVariants as build
-use Rattle.hm_moves.specs.declared.moving.Act.{Act}
-use Rattle.hm_moves.specs.declared.moving.Act.TheVariants.{Looks, Builds}
-use Rattle.hm_moves.specs.Acts.{field_look, next_version}
-use Rattle.hm_moves.specs.Allowed.{next_name, MayLookInto, HasRoom, Reads, Turns, MayTake, MayLook, IsBuilt, IsWritten, AreKnown}
-use Rattle.hm_core.specs.declared.step.StepKind.{StepKind}
+use Rattle.hm_moves.specs.Acts.{field_look}
+use Rattle.hm_moves.specs.Allowed.{MayLook, AreKnown}
 use Rattle.hm_core.specs.declared.step.StepKind.TheVariants.{LoadField, LoadLink, StoreOwn, Publish, LinkStore}
-use Rattle.hm_core.specs.Stepping.{act_of, later_contents, later_known, IsAwake, IsLookable, HoldsWhatItNeeds, HasPlace, IsPlain, Fits}
-use Rattle.hm_core.specs.Running.{Moment, core_of, index_of, own_part, own_view, IsSound}
+use Rattle.hm_core.specs.Stepping.{later_contents, later_known, HoldsWhatItNeeds, HasPlace, IsPlain}
 use Rattle.hm_core.proofs.Moments.{only_one, look_index}
 
 both_true : (a b : Bool) → (a && b) ≡ true → (a ≡ true) × (b ≡ true)

@@ -1,11 +1,7 @@
 -- What code reads of the fields is what the moment has that they tell.
 use Rattle.std.proofs.Common.{◌≡◌, ◌<◌, ℕ, List, length, get_or, sym, ap, ◌∙◌, subst, arith}
 use Rattle.std.proofs.lemmas.List.{get_or_default}
-use Rattle.hm_core.specs.declared.machine.Row.{Row}
-use Rattle.hm_core.specs.Hands.{HandState, no_hand}
-use Rattle.hm_core.specs.SeatStates.{SeatState, no_seat}
-use Rattle.hm_core.specs.Stepping.{IsAwake}
-use Rattle.hm_core.specs.Running.{Moment, core_of, hand_at, no_row, own_part, own_view, row_at, seat_at, IsSound}
+use Rattle.hm_core.proofs.Words.{Row, HandState, no_hand, SeatState, no_seat, IsAwake, Moment, core_of, hand_at, no_row, own_part, own_view, row_at, seat_at, IsSound}
 use Rattle.hm_core.proofs.Moments.{awake_below}
 
 -- an element that was read is the one at any default

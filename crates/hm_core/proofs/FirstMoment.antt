@@ -1,34 +1,17 @@
 -- The moment that a fresh machine tells: it is fresh, and sound.
 use Rattle.std.proofs.Common.{◌≡◌, ◌≢◌, ◌<◌, ◌≤◌, ◌-◌, ◌*◌, ℕ, zero, suc, ne_eqb, List, [], ◌∷◌, ◌++◌, length, map, get_or, take, replicate, Option, Some, None, refl, sym, ap, ◌∙◌, subst, arith, ⊎_elim, suc-mul}
 use Rattle.std.specs.Prelude.{slice_get}
-use Rattle.std.proofs.Math.Path.{fun_ext}
+use Rattle.hm_core.proofs.Words.{fun_ext, length-append, length-map, length-replicate, length-set, map-append, get_or-set_same, get_or-set_other, take_all, ℕ_discrete, dite, some, get_elem?, Shape, version_count, Start, Entry, AnyUsage, opening_of, Known, Part, View, Index, IsPublished, link_of, Carries, common_known, all_known, many, Row, SeatState, no_seat, HandState, fresh_hand, no_hand, Moment, any_store, any_entry, core_of, hand_at, index_of, no_row, own_part, places_of, row_at, seat_view, site_of, IsSound, IsSoundHand, creates_of, first_seats}
 use Rattle.std.proofs.lemmas.Nat.{mul-lt}
-use Rattle.std.proofs.lemmas.List.{length-append, length-map, length-replicate, length-set, map-append, get_or-replicate, get_or-set_same, get_or-set_other, take_all}
-use native.Mathlib.Decide.{ℕ_discrete}
-use mathlib.Core.Logic.{dite}
-use mathlib.Core.Option.{some}
-use lib.ListN.{get_elem?}
-use Rattle.hm_shape.specs.declared.shape.Shape.{Shape}
-use Rattle.hm_shape.specs.Versions.{version_count}
-use Rattle.hm_model.specs.declared.object.Start.{Start}
-use Rattle.hm_model.specs.declared.entry.Entry.{Entry}
-use Rattle.hm_model.specs.declared.usage.AnyUsage.{AnyUsage}
-use Rattle.hm_model.specs.History.{opening_of, starting_count}
-use Rattle.hm_moves.specs.declared.part.Known.{Known}
-use Rattle.hm_moves.specs.declared.part.Part.{Part}
-use Rattle.hm_moves.specs.declared.part.View.{View}
-use Rattle.hm_moves.specs.Chain.{Index, IsPublished, AreTrue, link_of}
+use Rattle.std.proofs.lemmas.List.{get_or-replicate}
+use Rattle.hm_model.specs.History.{starting_count}
+use Rattle.hm_moves.specs.Chain.{AreTrue}
 use Rattle.hm_moves.specs.Places.{HasHead, row_count}
-use Rattle.hm_moves.specs.Good.{Carries}
-use Rattle.hm_moves.specs.Fresh.{common_known, all_known, fresh_index, fresh_part, fresh_places, fresh_used, IsFreshHeap, IsFreshCore}
+use Rattle.hm_moves.specs.Fresh.{fresh_index, fresh_part, fresh_places, fresh_used, IsFreshHeap, IsFreshCore}
 use Rattle.hm_moves.specs.FirstWords.{AreFirst}
-use Rattle.hm_moves.proofs.Fresh.{numbered, numbered_at, many, used_first, used_other, good_fresh}
+use Rattle.hm_moves.proofs.Fresh.{numbered, numbered_at, used_first, used_other, good_fresh}
 use Rattle.hm_moves.proofs.Places.{at_end, at_below}
-use Rattle.hm_core.specs.declared.machine.Row.{Row}
-use Rattle.hm_core.specs.SeatStates.{SeatState, no_seat}
-use Rattle.hm_core.specs.Hands.{HandState, fresh_hand, no_hand}
-use Rattle.hm_core.specs.Running.{Moment, any_store, any_entry, core_of, hand_at, index_of, no_row, own_part, places_of, row_at, seat_view, site_of, IsSound, IsSoundHand}
-use Rattle.hm_core.specs.Firsts.{creates_of, first_hands, first_rows, first_seats}
+use Rattle.hm_core.specs.Firsts.{first_hands, first_rows}
 use Rattle.hm_core.proofs.FirstVersions.{opening_created}
 
 -- what the fields of a fresh machine tell

@@ -1,20 +1,11 @@
 -- The versions of the starting objects, and the entries that make them.
 use Rattle.std.proofs.Common.{◌≡◌, ◌<◌, ◌+◌, ◌-◌, ℕ, List, [], ◌∷◌, ◌++◌, length, get_or, take, drop, replicate, Option, Some, None, refl, sym, ap, ◌∙◌, subst, arith, append_assoc, append-nil}
-use Rattle.std.proofs.lemmas.List.{drop_more, get_or-append-add, length-append, map-append, take-append-drop}
-use Rattle.hm_model.specs.declared.object.Name.{Name}
-use Rattle.hm_model.specs.declared.object.Start.{Start}
-use Rattle.hm_model.specs.declared.entry.Entry.{Entry}
-use Rattle.hm_model.specs.declared.entry.Entry.TheVariants.{Create}
-use Rattle.hm_model.specs.Store.{Refs, Numbers, PlainStore}
-use Rattle.hm_model.specs.Effect.{Stands, new_contents}
-use Rattle.hm_model.specs.History.{store_of, AllStand, common_name, opening_of, side_count, side_entries, side_names, starting_name}
-use Rattle.hm_model.proofs.HistoryFacts.{all_stand_parts}
-use Rattle.hm_moves.specs.declared.part.Known.{Known}
-use Rattle.hm_moves.specs.Fresh.{all_known, common_known, side_known, starting_known}
+use Rattle.hm_core.proofs.Words.{length-append, map-append, Name, Start, Entry, Create, Refs, Numbers, PlainStore, Stands, new_contents, store_of, AllStand, common_name, opening_of, side_entries, side_names, all_stand_parts, Known, all_known, common_known, HasNextStamp, AddsSide, creates_of}
+use Rattle.std.proofs.lemmas.List.{drop_more, get_or-append-add, take-append-drop}
+use Rattle.hm_model.specs.History.{side_count, starting_name}
+use Rattle.hm_moves.specs.Fresh.{side_known, starting_known}
 use Rattle.hm_moves.proofs.Fresh.{sides_length}
 use Rattle.hm_moves.proofs.FirstWords.{first_known, first_name}
-use Rattle.hm_core.specs.Chronicles.{HasNextStamp}
-use Rattle.hm_core.specs.Firsts.{AddsSide, creates_of}
 
 -- side objects are added one after another
 pub record AreAdded (before : List Known) (sides : List (Option Numbers)) (names : Refs)

@@ -1,18 +1,9 @@
 -- Tests of versions by their number, their word and their name.
 use Rattle.std.proofs.Common.{◌≡◌, ◌↔◌, ◌≤◌, ◌==◌, ◌&&◌, ◌||◌, ℕ, Bool, true, false, not, eq-eqb, eqb-true, List, [], ◌∷◌, length, Option, Some, None, IsTrue, IfSome, Contains, refl, sym, ap, ◌∙◌, subst, arith, ⊎_elim}
-use Rattle.std.specs.List.{list_any}
+use Rattle.hm_core.proofs.Words.{list_any, Version, naming_word, Name, is_same, same_names, is_same-self, Known, is_version, without, with_held, Spells, HandState, HasVersion, CanHold, holding}
 use Rattle.std.proofs.lemmas.List.Filters.{length-filter_both}
 use Rattle.std.proofs.Math.Bool.{not-not}
-use Rattle.hm_shape.specs.declared.version.Version.{Version}
-use Rattle.hm_shape.specs.Words.{naming_word}
-use Rattle.hm_model.specs.declared.object.Name.{Name}
-use Rattle.hm_model.specs.Store.{is_same}
-use Rattle.hm_model.proofs.StoreFacts.{same_names, is_same-self}
-use Rattle.hm_moves.specs.declared.part.Known.{Known}
-use Rattle.hm_moves.specs.After.{is_version, without, with_held}
-use Rattle.hm_moves.specs.Allowed.{Spells}
 use Rattle.hm_moves.proofs.Held.{contains_first, contains_here, contains_behind}
-use Rattle.hm_core.specs.Hands.{HandState, HasVersion, CanHold, holding}
 
 -- some element passes a test where one has what the test is of
 any_told : {A : Type 0} (test : A → Bool) (xs : List A) → list_any test xs ≡ true

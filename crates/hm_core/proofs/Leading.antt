@@ -1,30 +1,15 @@
 -- An accepted step that moves a word is a lawful move, and every step that is taken leads on.
 use Rattle.std.proofs.Common.{◌≡◌, ◌≢◌, ◌<◌, ◌+◌, ℕ, length, Option, Some, None, IfSome, Contains, refl, sym, ap, ◌∙◌, subst, arith, inl}
-use Rattle.std.proofs.lemmas.Option.{slice_get_within}
-use Rattle.hm_shape.specs.declared.version.Version.{Version}
-use Rattle.hm_model.specs.declared.usage.AnyUsage.{AnyUsage}
-use Rattle.hm_model.specs.Store.{IsThere}
-use Rattle.hm_model.specs.Effect.{Stands}
-use Rattle.hm_model.specs.History.{store_of}
-use Rattle.hm_moves.specs.declared.part.Known.{Known}
-use Rattle.hm_moves.specs.declared.part.Part.{Part}
+use Rattle.hm_core.proofs.Words.{slice_get_within, Version, AnyUsage, IsThere, Stands, store_of, Known, Part, Act, Looks, Builds, Index, HasHand, MayHold, MayTake, IsLawfulMove, Core, Leads, here, let_go, cut, met, Step, StepKind, Note, act_of, IsAwake, MayMeet, Fits, Moment, any_store, any_entry, core_of, index_of, own_part, own_view, IsSound}
 use Rattle.hm_moves.specs.declared.moving.Look.TheVariants as look
 use Rattle.hm_moves.specs.declared.moving.Build.TheVariants as build
-use Rattle.hm_moves.specs.declared.moving.Act.{Act}
-use Rattle.hm_moves.specs.declared.moving.Act.TheVariants.{Looks, Builds}
-use Rattle.hm_moves.specs.Chain.{Index}
-use Rattle.hm_moves.specs.Allowed.{HasHand, MayHold, MayTake, IsLawfulMove}
-use Rattle.hm_moves.specs.Good.{Core}
-use Rattle.hm_moves.specs.Safe.{Leads, here, moved, let_go, cut, met}
+use Rattle.hm_moves.specs.Safe.{moved}
 use Rattle.hm_moves.proofs.Enabling.{take_wider}
-use Rattle.hm_core.specs.declared.step.Step.{Step}
-use Rattle.hm_core.specs.declared.step.StepKind.{StepKind}
 use Rattle.hm_core.specs.declared.step.StepKind.TheVariants.{StoreOwn, Publish, Split, Meet}
 use Rattle.hm_core.specs.declared.step.StepRefused.TheVariants as refused
 use Rattle.hm_core.specs.declared.step.Other.{Other}
-use Rattle.hm_core.specs.declared.step.Other.TheVariants.{Note, Caller}
-use Rattle.hm_core.specs.Stepping.{seat_of, act_of, IsAct, IsAwake, IsHeld, MayMeet, HasSeat, MayHoldMore, IsTaken, Fits}
-use Rattle.hm_core.specs.Running.{Moment, any_store, any_entry, core_of, index_of, own_part, own_view, IsSound}
+use Rattle.hm_core.specs.declared.step.Other.TheVariants.{Caller}
+use Rattle.hm_core.specs.Stepping.{seat_of, IsAct, IsHeld, HasSeat, MayHoldMore, IsTaken}
 use Rattle.hm_core.specs.Taking.{let_go_of, IsAdmitted, Becomes, Takes}
 use Rattle.hm_core.proofs.Moments.{awake_below, look_index, view_from}
 use Rattle.hm_core.proofs.LetGo.{split_leads, meet_leads}

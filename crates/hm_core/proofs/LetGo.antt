@@ -1,26 +1,13 @@
 -- The plain data after a caller let go of a version, and its seat was then split or joined with another.
 use Rattle.std.proofs.Common.{◌≡◌, ◌≢◌, ◌<◌, ◌≤◌, ℕ, zero, suc, Bool, true, false, List, [], ◌∷◌, ◌++◌, length, map, take, set, get_or, nat_lt, if◌then◌else◌, Option, None, refl, sym, ap, ◌∙◌, subst, arith, append-nil, length-set, length-append, get_or-set_other, get_or-set_same}
 use Rattle.std.specs.Prelude.{slice_index_or, slice_set}
-use Rattle.std.proofs.lemmas.List.{set-get_or, length-take-le, map-append, map-set}
-use Rattle.std.proofs.lemmas.Option.{slice_get-get_or}
-use native.Mathlib.Decide.{ℕ_discrete}
-use mathlib.Core.Logic.{dite}
-use mathlib.Core.Option.{some, some-injective}
-use lib.ListN.{get_elem?}
-use Rattle.hm_model.specs.declared.entry.Entry.{Entry}
-use Rattle.hm_model.specs.declared.usage.AnyUsage.{AnyUsage}
-use Rattle.hm_moves.specs.declared.part.Known.{Known}
-use Rattle.hm_moves.specs.declared.part.Part.{Part}
-use Rattle.hm_moves.specs.declared.part.View.{View}
-use Rattle.hm_moves.specs.After.{letting, view}
-use Rattle.hm_moves.specs.Good.{Core, Good, longer, spent_view}
-use Rattle.hm_moves.specs.Safe.{Leads, here, let_go, cut, met}
+use Rattle.hm_core.proofs.Words.{set-get_or, map-append, map-set, slice_get-get_or, ℕ_discrete, dite, some, some-injective, get_elem?, Entry, AnyUsage, Known, Part, View, view, Core, Good, Leads, here, let_go, cut, met, HandState, no_hand, SeatState, no_seat, IsAwake, Moment, any_store, any_entry, core_of, hand_at, own_part, own_view, places_of, seat_at, seat_view, site_of, IsSound, IsSoundHand}
+use Rattle.std.proofs.lemmas.List.{length-take-le}
+use Rattle.hm_moves.specs.After.{letting}
+use Rattle.hm_moves.specs.Good.{longer, spent_view}
 use Rattle.hm_moves.proofs.Places.{set_here, set_else}
 use Rattle.hm_moves.proofs.Safe.{good_always}
-use Rattle.hm_core.specs.Hands.{HandState, hand_letting, no_hand}
-use Rattle.hm_core.specs.SeatStates.{SeatState, no_seat}
-use Rattle.hm_core.specs.Stepping.{IsAwake}
-use Rattle.hm_core.specs.Running.{Moment, any_store, any_entry, core_of, hand_at, own_part, own_view, places_of, seat_at, seat_view, site_of, IsSound, IsSoundHand}
+use Rattle.hm_core.specs.Hands.{hand_letting}
 use Rattle.hm_core.specs.Taking.{core_letting, seat_letting, split_off, joined_to}
 use Rattle.hm_core.proofs.Moments.{awake_below, view_at}
 use Rattle.hm_core.proofs.FieldsRead.{hand_read, seat_read, other_read}

@@ -1,3 +1,5 @@
+-- the words of these proofs
+pub mod Words
 -- lists of steps
 pub mod Played
 -- a hand: tests of its versions, and the words of its draft

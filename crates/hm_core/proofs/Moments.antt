@@ -2,25 +2,11 @@
 use Rattle.std.proofs.Common.{◌≡◌, ◌<◌, ℕ, zero, suc, List, [], ◌∷◌, map, Option, Some, None, IfSome, refl, sym, ap, ◌∙◌, subst, arith, ◌⊎◌, ◌↔◌, IsNone, inl, inr, ⊎_elim, ◌≤◌}
 use Rattle.std.specs.Prelude.{slice_get}
 use native.Mathlib.Decide.{dec_le}
-use Rattle.std.proofs.lemmas.Option.{slice_get_past, slice_get-get_or, get_or_from_slice_get}
-use mathlib.Core.Option.{some, some-injective, some-ne-none}
-use lib.ListN.{get_elem?}
+use Rattle.hm_core.proofs.Words.{slice_get_past, slice_get-get_or, get_or_from_slice_get, some, some-injective, get_elem?, AnyUsage, Known, Part, View, IsPublished, PartIsGood, Version, made_count, store_of, MayLookInto, next_name, IsAwake, IsLookable, SeatState, Moment, core_of, index_of, own_part, own_view, places_of, seat_view, site_of, IsSound}
+use mathlib.Core.Option.{some-ne-none}
 use Rattle.hm_shape.specs.Words.{word_count}
-use Rattle.hm_model.specs.declared.usage.AnyUsage.{AnyUsage}
-use Rattle.hm_moves.specs.declared.part.Known.{Known}
-use Rattle.hm_moves.specs.declared.part.Part.{Part}
-use Rattle.hm_moves.specs.declared.part.View.{View}
-use Rattle.hm_moves.specs.Chain.{IsPublished}
 use Rattle.hm_moves.specs.Places.{IsFit}
-use Rattle.hm_moves.specs.Good.{PartIsGood}
-use Rattle.hm_shape.specs.declared.version.Version.{Version}
-use Rattle.hm_model.specs.Store.{made_count}
-use Rattle.hm_model.specs.History.{store_of}
 use Rattle.hm_model.proofs.HistoryFacts.{made_count-legal}
-use Rattle.hm_moves.specs.Allowed.{MayLookInto, next_name}
-use Rattle.hm_core.specs.Stepping.{IsAwake, IsLookable}
-use Rattle.hm_core.specs.SeatStates.{SeatState}
-use Rattle.hm_core.specs.Running.{Moment, core_of, index_of, own_part, own_view, places_of, seat_view, site_of, IsSound}
 use Rattle.hm_moves.proofs.Placed.{rank_small}
 use Rattle.hm_moves.proofs.Heaps.{look_published}
 

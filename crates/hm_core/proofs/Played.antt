@@ -1,9 +1,8 @@
 -- One step more is played.
 use Rattle.std.proofs.Common.{◌<◌, ◌+◌, ℕ, List, [], ◌∷◌, ◌++◌, length, get_or, take, refl, sym, subst}
 use Rattle.std.proofs.lemmas.List.{take_more}
-use Rattle.hm_core.specs.declared.step.Step.{Step}
-use Rattle.hm_core.specs.Running.{Moment}
-use Rattle.hm_core.specs.Playing.{Answers, Plays}
+use Rattle.hm_core.proofs.Words.{Step, Moment, Plays}
+use Rattle.hm_core.specs.Playing.{Answers}
 
 -- the last of some steps
 plays_last : (m l n : Moment) (steps : List Step) (step : Step) → Plays m steps l → Answers l step n

@@ -1,17 +1,8 @@
 -- Which seats are there, and whom they carry.
 use Rattle.std.proofs.Common.{◌≡◌, ◌≢◌, ◌↔◌, ◌<◌, ◌+◌, ℕ, zero, suc, Bool, true, List, [], ◌∷◌, ◌++◌, length, map, take, Option, Some, None, refl, sym, ap, ◌∙◌, subst, arith}
 use Rattle.std.specs.Prelude.{slice_get}
-use Rattle.hm_model.specs.declared.entry.Entry.{Entry}
-use Rattle.hm_model.specs.declared.usage.AnyUsage.{AnyUsage}
-use Rattle.hm_model.specs.declared.object.Start.{Start}
-use Rattle.hm_model.specs.declared.entry.Entry.TheVariants.{Create}
-use Rattle.hm_model.specs.History.{common_name, opening_of, side_entries, side_names}
-use Rattle.hm_moves.specs.declared.part.Part.{Part}
-use Rattle.hm_moves.specs.declared.part.View.{View}
-use Rattle.hm_core.specs.declared.step.Other.TheVariants.{Note}
-use Rattle.hm_core.specs.Stepping.{IsAwake, IsAlone, MayMeet}
-use Rattle.hm_core.specs.SeatStates.{SeatState}
-use Rattle.hm_core.specs.Running.{Moment, core_of, own_part, own_view, IsSound}
+use Rattle.hm_core.proofs.Words.{Entry, AnyUsage, Start, Create, common_name, opening_of, side_entries, side_names, Part, View, Note, IsAwake, MayMeet, SeatState, Moment, core_of, own_part, own_view, IsSound}
+use Rattle.hm_core.specs.Stepping.{IsAlone}
 use Rattle.hm_core.proofs.Moments.{awake_seated, awake_below, seated_awake, own_seat, view_at, view_from, only_one}
 
 no_seat : (o : Option SeatState) (s : SeatState) → o ≡ None → o ≡ Some s → ⊥

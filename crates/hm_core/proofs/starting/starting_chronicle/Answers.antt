@@ -1,6 +1,6 @@
 -- Each of the entries stands behind those before it.
 use Rattle.std.proofs.Common.{ap}
-use Rattle.hm_core.specs.Chronicles.{ChronicleState}
+use Rattle.hm_core.proofs.Words.{ChronicleState}
 use Rattle.hm_core.proofs.FirstVersions.{next_stands, next_stamp}
 use Rattle.hm_core.proofs.starting.starting_chronicle.Goals as goal
 

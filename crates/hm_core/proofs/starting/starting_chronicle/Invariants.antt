@@ -1,6 +1,6 @@
 -- So many starting objects are made so far.
 use Rattle.std.proofs.Common.{◌≡◌, take}
-use Rattle.hm_core.specs.Firsts.{creates_of}
+use Rattle.hm_core.proofs.Words.{creates_of}
 use Rattle.hm_core.proofs.starting.starting_chronicle.Given as goal
 
 abbrev pub invariant-loop-first : goal.invariant-loop-first

@@ -1,6 +1,6 @@
 -- So many hands hold the common object's version so far.
 use Rattle.std.proofs.Common.{◌≡◌, ◌-◌, [], ◌∷◌, replicate}
-use Rattle.hm_core.specs.Hands.{fresh_hand}
+use Rattle.hm_core.proofs.Words.{fresh_hand}
 use Rattle.hm_core.proofs.starting.starting_hands.Given as goal
 
 abbrev pub invariant-loop : goal.invariant-loop

@@ -1,10 +1,8 @@
 -- The side objects are added one after another, then the common object.
 use Rattle.std.proofs.Common.{◌≡◌, ◌∷◌, [], List, Option, None, get_or, length, sym, subst, rules}
-use Rattle.hm_model.specs.Store.{Numbers, Refs}
-use Rattle.hm_moves.specs.declared.part.Known.{Known}
+use Rattle.hm_core.proofs.Words.{Numbers, Refs, Known, AddsSide}
 use Rattle.hm_moves.proofs.FirstWords.{four_sides}
 use Rattle.hm_core.proofs.FirstVersions.{AreAdded, all_added, none_added, one_added}
-use Rattle.hm_core.specs.Firsts.{AddsSide}
 use Rattle.hm_core.proofs.starting.starting_versions.Goals as goal
 
 pub returns : goal.returns

@@ -1,7 +1,6 @@
 -- What the object holds is written at its place.
 use Rattle.std.proofs.Common.{ap}
-use Rattle.hm_model.specs.History.{store_of}
-use Rattle.hm_core.specs.Chronicles.{ChronicleState, StandsAt}
+use Rattle.hm_core.proofs.Words.{store_of, ChronicleState, StandsAt}
 use Rattle.hm_moves.proofs.Held.{from_some}
 use Rattle.hm_core.proofs.ChronicleFacts.{chronicle_changed}
 use Rattle.hm_core.proofs.chronicle.Chronicle.change.Goals as goal

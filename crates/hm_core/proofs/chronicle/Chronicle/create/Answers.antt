@@ -1,8 +1,6 @@
 -- The place of a new object comes behind those of its maker's objects.
 use Rattle.std.proofs.Common.{◌≡◌, ◌∷◌, ◌++◌, [], List, length, ap, ◌∙◌, arith}
-use Rattle.hm_model.specs.declared.entry.Entry.{Entry}
-use Rattle.hm_model.specs.Store.{PlainStore}
-use Rattle.hm_core.specs.Chronicles.{ChronicleState}
+use Rattle.hm_core.proofs.Words.{Entry, PlainStore, ChronicleState}
 use Rattle.hm_core.proofs.ChronicleFacts.{chronicle_created, written_same, written_to, written_at}
 use Rattle.hm_core.proofs.chronicle.Chronicle.create.Goals as goal
 

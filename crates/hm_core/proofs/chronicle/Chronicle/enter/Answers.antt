@@ -1,6 +1,6 @@
 -- An entry that stores nothing leaves the store and the places as they are.
 use Rattle.std.proofs.Common.{ap}
-use Rattle.hm_core.specs.Chronicles.{ChronicleState}
+use Rattle.hm_core.proofs.Words.{ChronicleState}
 use Rattle.hm_core.proofs.ChronicleFacts.{chronicle_none}
 use Rattle.hm_core.proofs.chronicle.Chronicle.enter.Goals as goal
 

@@ -1,8 +1,6 @@
 -- A maker has as many places as objects.
 use Rattle.std.proofs.Common.{◌≡◌, length, ap, ◌∙◌, arith}
-use Rattle.hm_model.specs.Store.{made_count}
-use Rattle.hm_model.specs.History.{store_of}
-use Rattle.hm_core.specs.Chronicles.{ChronicleState}
+use Rattle.hm_core.proofs.Words.{made_count, store_of, ChronicleState}
 use Rattle.hm_core.proofs.ChronicleFacts.{written_at}
 use Rattle.hm_core.proofs.chronicle.Chronicle.made.Goals as goal
 

@@ -1,6 +1,6 @@
 -- No maker has a place.
 use Rattle.std.proofs.Common.{◌≡◌, [], length, sym, ap, ◌∙◌, arith}
-use Rattle.std.proofs.lemmas.List.{length-map, length-replicate}
+use Rattle.hm_core.proofs.Words.{length-map, length-replicate}
 use Rattle.hm_core.proofs.ChronicleFacts.{chronicle_empty}
 use Rattle.hm_core.proofs.chronicle.Chronicle.new.Goals as goal
 

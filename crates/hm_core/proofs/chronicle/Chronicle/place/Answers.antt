@@ -1,6 +1,6 @@
 -- Where the places have an object, it stands in the store.
 use Rattle.std.proofs.Common.{ap}
-use Rattle.hm_core.specs.Chronicles.{ChronicleState}
+use Rattle.hm_core.proofs.Words.{ChronicleState}
 use Rattle.hm_core.proofs.ChronicleFacts.{place_there, place_none}
 use Rattle.hm_core.proofs.chronicle.Chronicle.place.Goals as goal
 

@@ -1,6 +1,5 @@
 use Rattle.std.proofs.Common.{rules, ◌≡◌, ◌==◌, Some, inr, ⊎_elim}
-use Rattle.std.specs.List.{list_any}
-use Rattle.hm_shape.specs.Words.{naming_word}
+use Rattle.hm_core.proofs.Words.{list_any, naming_word}
 use Rattle.hm_core.proofs.HeldTests.{names_iff, NamesOne, tested}
 use Rattle.hm_core.proofs.hand.Hand.names.Goals as goal
 

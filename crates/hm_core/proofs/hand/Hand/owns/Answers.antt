@@ -1,6 +1,5 @@
 use Rattle.std.proofs.Common.{rules, ◌≡◌, ◌==◌}
-use Rattle.std.specs.List.{list_any}
-use Rattle.hm_core.specs.Hands.{HasVersion}
+use Rattle.hm_core.proofs.Words.{list_any, HasVersion}
 use Rattle.hm_core.proofs.HeldTests.{has_iff, tested}
 use Rattle.hm_core.proofs.hand.Hand.owns.Goals as goal
 

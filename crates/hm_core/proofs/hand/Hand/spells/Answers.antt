@@ -1,9 +1,5 @@
 use Rattle.std.proofs.Common.{rules, ◌≡◌, ◌==◌, ◌&&◌, ◌↔◌, Option, Some, IsTrue, sym, subst}
-use Rattle.std.specs.List.{list_any}
-use Rattle.hm_shape.specs.Words.{naming_word}
-use Rattle.hm_model.specs.declared.object.Name.{Name}
-use Rattle.hm_model.specs.Store.{is_same}
-use Rattle.hm_moves.specs.Allowed.{Spells}
+use Rattle.hm_core.proofs.Words.{list_any, naming_word, Name, is_same, Spells}
 use Rattle.hm_core.proofs.HeldTests.{spells_iff, tested}
 use Rattle.hm_core.proofs.hand.Hand.spells.Goals as goal
 

@@ -1,9 +1,6 @@
 -- A version that is held already is not listed again.
 use Rattle.std.proofs.Common.{rules, ◌≡◌, Option, true, sym, ap, ◌∙◌}
-use Rattle.std.specs.List.{list_any}
-use Rattle.hm_moves.specs.declared.part.Known.{Known}
-use Rattle.hm_moves.specs.After.{is_version, with_held}
-use Rattle.hm_core.specs.Hands.{holding}
+use Rattle.hm_core.proofs.Words.{list_any, Known, is_version, with_held, holding}
 use Rattle.hm_core.proofs.HeldTests.{held_once}
 use Rattle.hm_core.proofs.hand.Hand.take_in.Goals as goal
 

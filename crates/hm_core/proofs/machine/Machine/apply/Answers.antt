@@ -1,7 +1,6 @@
 -- What is taken leads on.
 use Rattle.std.proofs.Common.{sym, subst}
-use Rattle.hm_moves.specs.Safe.{here}
-use Rattle.hm_core.specs.Running.{Moment, core_of}
+use Rattle.hm_core.proofs.Words.{here, Moment, core_of}
 use Rattle.hm_core.proofs.Leading.{LeadsAny, takes_leads}
 use Rattle.hm_core.proofs.machine.Machine.apply.Goals as goal
 

@@ -1,4 +1,4 @@
-use Rattle.hm_core.specs.Running.{core_of}
+use Rattle.hm_core.proofs.Words.{core_of}
 use Rattle.hm_moves.proofs.Ends.{chains_end}
 use Rattle.hm_core.proofs.machine.Machine.apply_all.Goals as goal
 

@@ -1,7 +1,5 @@
 use Rattle.std.proofs.Common.{◌<◌, ◌+◌, ℕ, slice_index}
-use Rattle.hm_shape.specs.declared.version.TheConstants.{FIRST_NUMBER}
-use Rattle.hm_moves.specs.Allowed.{IsWritten}
-use Rattle.hm_core.specs.Running.{own_part}
+use Rattle.hm_core.proofs.Words.{FIRST_NUMBER, IsWritten, own_part}
 use Rattle.hm_core.proofs.machine.Machine.are_numbers.Given as goal
 
 abbrev pub invariant-loop-i : goal.invariant-loop-i

@@ -1,7 +1,5 @@
 use Rattle.std.proofs.Common.{◌+◌, ℕ, None, arith, below_more, sym, ◌∙◌, get_or}
-use Rattle.hm_shape.specs.declared.version.TheConstants.{FIRST_REFERENCE}
-use Rattle.hm_moves.specs.Allowed.{IsWritten, Spells}
-use Rattle.hm_core.specs.Running.{own_part}
+use Rattle.hm_core.proofs.Words.{FIRST_REFERENCE, IsWritten, Spells, own_part}
 use Rattle.hm_core.proofs.machine.Machine.are_spelled.Goals as goal
 
 pub loop-i-preserved : goal.loop-i-preserved

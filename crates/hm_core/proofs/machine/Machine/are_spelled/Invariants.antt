@@ -1,8 +1,6 @@
 use Rattle.std.proofs.Common.{◌<◌, ◌+◌, ℕ, None}
 use Rattle.std.specs.Prelude.{slice_index_or}
-use Rattle.hm_shape.specs.declared.version.TheConstants.{FIRST_REFERENCE}
-use Rattle.hm_moves.specs.Allowed.{IsWritten, Spells}
-use Rattle.hm_core.specs.Running.{own_part}
+use Rattle.hm_core.proofs.Words.{FIRST_REFERENCE, IsWritten, Spells, own_part}
 use Rattle.hm_core.proofs.machine.Machine.are_spelled.Given as goal
 
 abbrev pub invariant-loop-i : goal.invariant-loop-i

@@ -1,7 +1,5 @@
 use Rattle.std.proofs.Common.{◌<◌, ℕ, get_or, Option, IfSome}
-use Rattle.hm_model.specs.declared.object.Name.{Name}
-use Rattle.hm_model.specs.Store.{IsThere}
-use Rattle.hm_model.specs.History.{store_of}
+use Rattle.hm_core.proofs.Words.{Name, IsThere, store_of}
 use Rattle.hm_core.proofs.machine.Machine.are_there.Given as goal
 
 abbrev pub invariant-loop-name : goal.invariant-loop-name

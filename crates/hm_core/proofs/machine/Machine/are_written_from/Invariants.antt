@@ -1,6 +1,6 @@
 use Rattle.std.proofs.Common.{◌<◌, ◌≤◌, ℕ, None, IsSome}
 use Rattle.std.specs.Prelude.{slice_index_or}
-use Rattle.hm_core.specs.Running.{own_part}
+use Rattle.hm_core.proofs.Words.{own_part}
 use Rattle.hm_core.proofs.machine.Machine.are_written_from.Given as goal
 
 abbrev pub invariant-loop-j : goal.invariant-loop-j

@@ -1,10 +1,6 @@
 use Rattle.std.proofs.Common.{◌≡◌, sym, ◌∙◌, subst}
-use Rattle.hm_model.specs.declared.object.Contents.{Contents}
-use Rattle.hm_model.specs.declared.entry.Entry.{Entry}
+use Rattle.hm_core.proofs.Words.{Contents, Entry, IsBuilt, Fits, core_of, own_part}
 use Rattle.hm_core.specs.declared.step.StepKind.TheVariants.{Publish}
-use Rattle.hm_moves.specs.Allowed.{IsBuilt}
-use Rattle.hm_core.specs.Stepping.{Fits}
-use Rattle.hm_core.specs.Running.{core_of, own_part}
 use Rattle.hm_core.proofs.EntryTests.{create_fits, fits_create}
 use Rattle.hm_core.proofs.machine.Machine.creates.Goals as goal
 

@@ -1,7 +1,5 @@
 use Rattle.std.proofs.Common.{sym, subst}
-use Rattle.hm_core.specs.declared.step.StepKind.{StepKind}
-use Rattle.hm_core.specs.Stepping.{Fits}
-use Rattle.hm_core.specs.Running.{core_of, own_part}
+use Rattle.hm_core.proofs.Words.{StepKind, Fits, core_of, own_part}
 use Rattle.hm_core.proofs.machine.Machine.fits.Goals as goal
 
 pub returns-in-LoadLink : goal.returns-in-LoadLink

@@ -1,8 +1,5 @@
 use Rattle.std.proofs.Common.{◌≡◌, Some, None, sym, ◌∙◌, subst, eqb}
-use Rattle.std.specs.Option.{option_eq}
-use Rattle.hm_model.specs.declared.object.Contents.{Contents}
-use Rattle.hm_moves.specs.Allowed.{IsBuilt}
-use Rattle.hm_core.specs.Running.{own_part}
+use Rattle.hm_core.proofs.Words.{option_eq, Contents, IsBuilt, own_part}
 use Rattle.hm_core.proofs.EntryTests.{link_fits, fits_link, word_told, not_false}
 use Rattle.hm_core.proofs.machine.Machine.hangs.Goals as goal
 

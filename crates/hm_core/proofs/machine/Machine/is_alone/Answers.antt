@@ -1,5 +1,5 @@
 use Rattle.std.proofs.Common.{◌≡◌, length, sym, ap, ◌∙◌, arith}
-use Rattle.std.proofs.lemmas.Bool.Decides.{nat_tests}
+use Rattle.hm_core.proofs.Words.{nat_tests}
 use Rattle.hm_core.proofs.Seating.{seated_alone, alone_seated, none_alone}
 use Rattle.hm_core.proofs.machine.Machine.is_alone.Goals as goal
 

@@ -1,6 +1,6 @@
 use Rattle.hm_core.proofs.Moments.{awake_below}
 use Rattle.hm_core.proofs.Seating.{awake_iff, none_awake}
-use Rattle.hm_core.specs.Running.{own_view, own_part}
+use Rattle.hm_core.proofs.Words.{own_view, own_part}
 use Rattle.hm_core.proofs.machine.Machine.is_awake.Goals as goal
 
 pub returns-in-Some-clause-awake : goal.returns-in-Some-clause-awake

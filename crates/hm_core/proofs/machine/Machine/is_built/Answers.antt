@@ -1,5 +1,5 @@
 use Rattle.std.proofs.Common.{Some, sym, ◌∙◌, eqb}
-use Rattle.std.specs.Option.{option_eq}
+use Rattle.hm_core.proofs.Words.{option_eq}
 use Rattle.hm_core.proofs.EntryTests.{word_told, not_false}
 use Rattle.hm_core.proofs.machine.Machine.is_built.Goals as goal
 

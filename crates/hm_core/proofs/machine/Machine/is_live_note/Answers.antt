@@ -1,7 +1,6 @@
 use Rattle.std.proofs.Common.{◌≡◌, ◌+◌, ◌<◌, ℕ, Some, None, sym, ap, ◌∙◌, subst, arith}
 use Rattle.std.specs.Prelude.{slice_get}
-use Rattle.std.proofs.lemmas.Option.{slice_get_past}
-use Rattle.std.proofs.lemmas.Bool.Decides.{nat_tests}
+use Rattle.hm_core.proofs.Words.{slice_get_past, nat_tests}
 use Rattle.hm_core.proofs.Seating.{note_iff, none_note}
 use Rattle.hm_core.proofs.machine.Machine.is_live_note.Goals as goal
 

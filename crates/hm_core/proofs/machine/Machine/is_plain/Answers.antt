@@ -1,6 +1,6 @@
 use Rattle.hm_core.proofs.EntryTests.{plain_fits}
 use Rattle.std.proofs.Common.{subst}
-use Rattle.hm_core.specs.Running.{IsSound}
+use Rattle.hm_core.proofs.Words.{IsSound}
 use Rattle.hm_core.proofs.machine.Machine.is_plain.Goals as goal
 
 pub returns-clause-fits : goal.returns-clause-fits

@@ -1,5 +1,5 @@
 use Rattle.std.proofs.Common.{◌≡◌, rules, subst}
-use Rattle.hm_core.specs.Running.{index_of, IsSound}
+use Rattle.hm_core.proofs.Words.{index_of, IsSound}
 use Rattle.hm_core.proofs.Moments.{known_fits}
 use Rattle.hm_core.proofs.machine.Machine.known.Goals as goal
 

@@ -1,5 +1,5 @@
 use Rattle.std.proofs.Common.{rules, ◌<◌, length, sym, ap, ◌∙◌, subst}
-use Rattle.hm_core.specs.Running.{core_of, IsSound}
+use Rattle.hm_core.proofs.Words.{core_of, IsSound}
 use Rattle.hm_core.proofs.FieldsRead.{hand_below}
 use Rattle.hm_core.proofs.LetGo.{core_met, sound_met, met_is}
 use Rattle.hm_core.proofs.machine.Machine.meet.Goals as goal

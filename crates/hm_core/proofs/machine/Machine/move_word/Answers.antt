@@ -1,7 +1,7 @@
 -- An admitted step that is an act is a lawful move.
 use Rattle.std.proofs.Common.{sym, ◌∙◌, arith}
 use Rattle.hm_core.specs.declared.step.StepRefused.TheVariants as refused
-use Rattle.hm_core.specs.Running.{core_of, own_part}
+use Rattle.hm_core.proofs.Words.{core_of, own_part}
 use Rattle.hm_core.proofs.Leading.{act_there, step_may}
 use Rattle.hm_core.proofs.machine.Machine.move_word.Goals as goal
 

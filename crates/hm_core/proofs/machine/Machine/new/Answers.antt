@@ -1,13 +1,8 @@
 -- A fresh machine is sound.
 use Rattle.std.proofs.Common.{◌≡◌, List, [], length, refl, sym, ap, ◌∙◌, subst, arith}
-use Rattle.hm_model.specs.declared.entry.Entry.{Entry}
-use Rattle.hm_model.specs.History.{AllStand}
+use Rattle.hm_core.proofs.Words.{Entry, AllStand, all_known, many, Moment, IsSound, ChronicleState, creates_of}
 use Rattle.hm_model.proofs.Openings.{opening_stands}
-use Rattle.hm_moves.specs.Fresh.{all_known}
-use Rattle.hm_moves.proofs.Fresh.{many}
-use Rattle.hm_core.specs.Running.{Moment, IsSound}
-use Rattle.hm_core.specs.Chronicles.{ChronicleState}
-use Rattle.hm_core.specs.Firsts.{IsFreshMachine, creates_of}
+use Rattle.hm_core.specs.Firsts.{IsFreshMachine}
 use Rattle.hm_core.proofs.FirstVersions.{common_last, opening_created}
 use Rattle.hm_core.proofs.FirstMoment.{first_sound, first_fresh, moment_is}
 use Rattle.hm_core.proofs.machine.Machine.new.Goals as goal

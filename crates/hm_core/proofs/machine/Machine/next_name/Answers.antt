@@ -1,8 +1,5 @@
 use Rattle.std.proofs.Common.{◌≡◌, ℕ, sym, ap, ◌∙◌, subst}
-use Rattle.hm_model.specs.declared.object.Name.{Name}
-use Rattle.hm_model.specs.Store.{made_count}
-use Rattle.hm_model.specs.History.{store_of}
-use Rattle.hm_core.specs.Running.{Moment, IsSound}
+use Rattle.hm_core.proofs.Words.{Name, made_count, store_of, Moment, IsSound}
 use Rattle.hm_core.proofs.Moments.{next_count}
 use Rattle.hm_core.proofs.machine.Machine.next_name.Goals as goal
 

@@ -1,6 +1,5 @@
 use Rattle.std.proofs.Common.{refl, ◌∙◌, arith}
-use Rattle.hm_moves.specs.Safe.{here}
-use Rattle.hm_core.specs.Running.{core_of}
+use Rattle.hm_core.proofs.Words.{here, core_of}
 use Rattle.hm_core.proofs.Leading.{leads_on}
 use Rattle.hm_core.proofs.Played.{plays_more}
 use Rattle.hm_core.proofs.machine.Machine.play.Goals as goal

@@ -1,7 +1,5 @@
 use Rattle.std.proofs.Common.{◌≡◌, take}
-use Rattle.hm_moves.specs.Safe.{Leads}
-use Rattle.hm_core.specs.Playing.{Plays}
-use Rattle.hm_core.specs.Running.{any_store, any_entry, core_of, site_of}
+use Rattle.hm_core.proofs.Words.{Leads, Plays, any_store, any_entry, core_of, site_of}
 use Rattle.hm_core.proofs.machine.Machine.play.Given as goal
 
 abbrev pub invariant-loop-step : goal.invariant-loop-step

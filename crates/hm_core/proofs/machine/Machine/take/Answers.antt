@@ -1,8 +1,6 @@
 -- The code leaves the plain data after the move.
 use Rattle.std.proofs.Common.{◌<◌, ◌+◌, ◌^◌, sym, ap, ◌∙◌, subst}
-use Rattle.hm_core.specs.declared.machine.Row.{Row}
-use Rattle.hm_core.specs.Chronicles.{ChronicleState}
-use Rattle.hm_core.specs.Running.{core_of, IsSound}
+use Rattle.hm_core.proofs.Words.{Row, ChronicleState, core_of, IsSound}
 use Rattle.hm_core.proofs.Moments.{awake_below}
 use Rattle.hm_core.proofs.AfterMove.{core_after, sound_after}
 use Rattle.hm_core.proofs.MoveNeeds.{HasRead, stands_now, stamp_now, caller_now, follow_now, below_now, row_small, after_is}

@@ -1,9 +1,5 @@
 use Rattle.std.proofs.Common.{refl, Option, IfSome, sym, subst}
-use Rattle.hm_model.specs.declared.entry.Entry.{Entry}
-use Rattle.hm_model.specs.Store.{IsThere}
-use Rattle.hm_model.specs.History.{store_of}
-use Rattle.hm_moves.specs.Allowed.{Reads}
-use Rattle.hm_core.specs.Running.{own_part}
+use Rattle.hm_core.proofs.Words.{Entry, IsThere, store_of, Reads, own_part}
 use Rattle.hm_core.proofs.EntryTests.{wants_fit}
 use Rattle.hm_core.proofs.machine.Machine.wants.Goals as goal
 
