@@ -1,19 +1,7 @@
 -- Few versions are held, since one that is not named is let go.
 use Rattle.std.proofs.Common.{◌≡◌, ◌⊎◌, ◌≤◌, ◌+◌, ◌||◌, ℕ, zero, suc, Bool, true, false, true≢false, cond, not, filter, eq-eqb, ne_eqb, eqb-true, List, [], ◌∷◌, ◌++◌, length, map, Option, Some, None, IfSome, Contains, unwrap_or, if◌then◌else◌, refl, sym, ap, ◌∙◌, subst, arith, inl, inr, length-append}
-use Rattle.std.specs.Prelude.{◌==◌}
-use Rattle.std.specs.List.{list_any}
-use Rattle.std.specs.Option.{option_map}
-use Rattle.std.proofs.lemmas.List.{length-map}
-use Rattle.hm_shape.specs.declared.version.Version.{Version}
-use Rattle.hm_moves.specs.declared.part.Known.{Known}
+use Rattle.hm_cells.proofs.Words.{◌==◌, list_any, option_map, length-map, Version, Known, Looks, Builds, StoreOwn, Publish, LinkStore, is_version, without, with_held, publishes, Found, IsLink, AreApart, first_idle, is_kept}
 use Rattle.hm_moves.specs.declared.moving.Act.{Act}
-use Rattle.hm_moves.specs.declared.moving.Act.TheVariants.{Looks, Builds}
-use Rattle.hm_moves.specs.declared.moving.Build.TheVariants.{StoreOwn, Publish, LinkStore}
-use Rattle.hm_moves.specs.After.{is_version, without, with_held}
-use Rattle.hm_moves.specs.Acts.{publishes}
-use Rattle.hm_moves.specs.Told.{Found, IsLink}
-use Rattle.hm_moves.specs.Good.{AreApart}
-use Rattle.hm_cells.specs.Facts.{first_idle, is_kept}
 use Rattle.hm_cells.proofs.Found.{any_none, find_none, held_after}
 use Rattle.hm_cells.proofs.Ready.{idle_held}
 

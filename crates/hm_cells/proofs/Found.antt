@@ -1,14 +1,6 @@
 -- Held versions by their numbers, and which of them stay held.
 use Rattle.std.proofs.Common.{◌≡◌, ◌≢◌, ◌⊎◌, ◌||◌, ℕ, zero, suc, Bool, true, false, true≢false, cond, not, filter, eq-eqb, ne_eqb, eqb-true, List, [], ◌∷◌, ◌++◌, get_or, map, Option, Some, None, IsSome, IfSome, is_some, Contains, All, if◌then◌else◌, refl, sym, ap, ◌∙◌, arith, ⊎_elim}
-use Rattle.std.specs.Prelude.{◌==◌}
-use Rattle.std.specs.List.{find, list_any}
-use Rattle.std.specs.Option.{option_map}
-use Rattle.std.proofs.lemmas.List.Folds.{find-append, list_any-append}
-use Rattle.hm_shape.specs.declared.version.Version.{Version}
-use Rattle.hm_moves.specs.declared.part.Known.{Known}
-use Rattle.hm_moves.specs.After.{is_version, without, with_held}
-use Rattle.hm_cells.specs.Facts.{find_version, IsAmong, place_name, is_kept, first_idle}
-use Rattle.hm_moves.specs.Good.{AreApart}
+use Rattle.hm_cells.proofs.Words.{◌==◌, find, list_any, option_map, find-append, list_any-append, Version, Known, is_version, without, with_held, find_version, IsAmong, place_name, is_kept, first_idle, AreApart}
 
 module _ {X : Type 0} where
   behind : (x y : X) (xs : List X) → Contains xs x → Contains (y ∷ xs) x

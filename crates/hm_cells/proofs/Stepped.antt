@@ -1,22 +1,8 @@
 -- What a move leaves of what a pass knew, for the calls that take several.
 use Rattle.std.proofs.Common.{◌≡◌, ◌≢◌, ◌⊎◌, ◌<◌, ◌≤◌, ◌+◌, ◌&&◌, ℕ, zero, suc, Bool, true, false, true≢false, List, [], ◌∷◌, ◌++◌, length, get_or, set, Option, Some, None, IfSome, Contains, unwrap_or, if◌then◌else◌, eqb-true, refl, sym, ap, ◌∙◌, subst, arith, inl, inr, ⊎_elim, get_or-set_same, get_or-set_other}
-use Rattle.std.specs.Prelude.{◌==◌}
-use Rattle.std.proofs.lemmas.List.Elements.{All-contains, Contains-append_right}
-use Rattle.hm_shape.specs.declared.version.Version.{Version}
-use Rattle.hm_shape.specs.Words.{naming_word}
-use Rattle.hm_model.specs.declared.entry.Entry.{Entry}
-use Rattle.hm_model.specs.Store.{PlainStore}
-use Rattle.hm_moves.specs.declared.part.Known.{Known}
+use Rattle.hm_cells.proofs.Words.{◌==◌, All-contains, Contains-append_right, Version, naming_word, Entry, PlainStore, Known, Looks, Builds, LoadStamp, LoadReference, LoadNumber, LoadLink, StoreOwn, Publish, LinkStore, IsFit, publishes, listed, field_look}
+use Rattle.hm_cells.proofs.Words.{is_naming, unless_named, unnamed_from, unnamed, written_with, IsWritten, done_seen, Facts, IsHeldAt, IsLookable, IsSound, find_version, first_idle, known_at, lookable, nothing_known, Takes, taken}
 use Rattle.hm_moves.specs.declared.moving.Act.{Act}
-use Rattle.hm_moves.specs.declared.moving.Act.TheVariants.{Looks, Builds}
-use Rattle.hm_moves.specs.declared.moving.Look.TheVariants.{LoadStamp, LoadReference, LoadNumber, LoadLink}
-use Rattle.hm_moves.specs.declared.moving.Build.TheVariants.{StoreOwn, Publish, LinkStore}
-use Rattle.hm_moves.specs.Places.{IsFit}
-use Rattle.hm_moves.specs.Acts.{publishes, listed, field_look}
-use Rattle.hm_moves.specs.After.{is_naming, unless_named, unnamed_from, unnamed, written_with}
-use Rattle.hm_moves.specs.Allowed.{IsWritten, done_seen}
-use Rattle.hm_cells.specs.Facts.{Facts, IsHeldAt, IsLookable, IsSound, find_version, first_idle, known_at, lookable, nothing_known}
-use Rattle.hm_cells.specs.Calls.{Takes, taken}
 use Rattle.hm_cells.proofs.Fields.{field_cases}
 use Rattle.hm_cells.proofs.Few.{few_after, not_both}
 use Rattle.hm_cells.proofs.Found.{IsNamed, among, at_place, found_first, idle_other, named_stays, there_found, there_is}

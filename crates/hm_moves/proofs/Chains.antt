@@ -1,14 +1,6 @@
 -- Chains after a store into another word, after a create, and after a version is hung on the last one.
 use Rattle.std.proofs.Common.{◌≡◌, ◌≢◌, ◌+◌, ℕ, zero, suc, List, Some, None, refl, sym, ap, ◌∙◌, subst, arith, ⊎_elim}
-use native.Mathlib.Decide.{ℕ_discrete}
-use mathlib.Core.Logic.{dite}
-use Rattle.hm_shape.specs.declared.shape.Shape.{Shape}
-use Rattle.hm_shape.specs.Words.{naming_word}
-use Rattle.hm_model.specs.declared.object.Name.{Name}
-use Rattle.hm_model.specs.Store.{PlainStore, contents_of, IsThere}
-use Rattle.hm_model.proofs.EffectFacts.{there_contents}
-use Rattle.hm_moves.specs.declared.part.Known.{Known}
-use Rattle.hm_moves.specs.Chain.{Index, IsPublished, with_one, link_of, IsLinked, AreChained}
+use Rattle.hm_moves.proofs.Words.{ℕ_discrete, dite, Shape, naming_word, Name, PlainStore, contents_of, IsThere, there_contents, Known, Index, IsPublished, with_one, link_of, IsLinked, AreChained}
 use Rattle.hm_moves.proofs.Placed.{published_here, published_either, published_once, follows_more}
 
 -- the links of published versions are the same

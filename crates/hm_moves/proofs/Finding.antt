@@ -1,26 +1,7 @@
 -- What an act finds, what it publishes, and by whom its entry is.
 use Rattle.std.proofs.Common.{◌≡◌, ℕ, zero, suc, List, slice_index, Option, Some, None, IfSome, refl, sym, ap, ◌∙◌, subst, arith}
-use Rattle.hm_shape.specs.Words.{word_at}
-use Rattle.hm_model.specs.declared.object.Name.{Name}
-use Rattle.hm_model.specs.declared.entry.Tried.TheVariants.{Stored, Changed}
-use Rattle.hm_model.specs.declared.entry.Entry.{Entry}
-use Rattle.hm_model.specs.declared.entry.Entry.TheVariants.{Create, Fetch, Store, StoreIf}
-use Rattle.hm_model.specs.Store.{PlainStore}
-use Rattle.hm_model.specs.Effect.{caller_of}
-use Rattle.hm_model.specs.History.{store_of}
-use Rattle.hm_moves.specs.declared.part.Known.{Known}
-use Rattle.hm_moves.specs.declared.part.Part.{Part}
-use Rattle.hm_moves.specs.declared.moving.Act.{Act}
-use Rattle.hm_moves.specs.declared.moving.Act.TheVariants.{Looks, Builds}
-use Rattle.hm_moves.specs.declared.moving.Look.TheVariants.{LoadStamp, LoadReference, LoadNumber, LoadLink}
-use Rattle.hm_moves.specs.declared.moving.Build.TheVariants.{StoreOwn, Publish, LinkStore}
-use Rattle.hm_moves.specs.Chain.{Index, IsPublished, with_one, lookup, Refers, IsLinked, reference_at}
-use Rattle.hm_moves.specs.Places.{Heap}
-use Rattle.hm_moves.specs.Acts.{next_version, word_of, entry_of, publishes, finds, want_of, looked_at}
-use Rattle.hm_moves.specs.After.{index_with}
-use Rattle.hm_moves.specs.Allowed.{HasRoom, MayLookInto, Reads, Turns, MayTake, TurnsBy}
-use Rattle.hm_moves.specs.Good.{HeapIsGood, PartIsGood}
-use Rattle.hm_moves.specs.Told.{IsReference, IsLink, Found}
+use Rattle.hm_moves.proofs.Words.{word_at, Name, Stored, Changed, Entry, Create, Fetch, Store, StoreIf, PlainStore, caller_of, store_of, Known, Part, Act, Looks, Builds, LoadStamp, LoadReference, LoadNumber, LoadLink, StoreOwn, Publish, LinkStore, Index, IsPublished, with_one, lookup}
+use Rattle.hm_moves.proofs.Words.{Refers, IsLinked, reference_at, Heap, next_version, word_of, entry_of, publishes, finds, want_of, looked_at, index_with, HasRoom, MayLookInto, Reads, Turns, MayTake, TurnsBy, HeapIsGood, PartIsGood, IsReference, IsLink, Found}
 use Rattle.hm_moves.proofs.Histories.{IsBy}
 use Rattle.hm_moves.proofs.Placed.{published_here, published_more}
 use Rattle.hm_moves.proofs.Heaps.{look_published, fresh_none}

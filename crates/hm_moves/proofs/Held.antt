@@ -1,14 +1,6 @@
 -- Lists of held versions, and words of a draft that name them.
 use Rattle.std.proofs.Common.{◌≡◌, ◌≢◌, ◌⊎◌, ◌<◌, ◌≤◌, ◌+◌, ℕ, zero, suc, Bool, true, false, cond, not, filter, eqb, eq-eqb, ne_eqb, ◌&&◌, List, [], ◌∷◌, ◌++◌, length, get_or, replicate, Option, Some, None, IfSome, Contains, if◌then◌else◌, refl, sym, ap, ◌∙◌, subst, arith, inl, inr, ⊎_elim, append-nil}
-use Rattle.std.specs.List.{list_any}
-use Rattle.std.proofs.lemmas.Grind.{common_steps}
-use Rattle.std.proofs.lemmas.List.Elements.{Contains-push_cases, Contains-append_left}
-use native.Mathlib.Decide.{dec_le}
-use Rattle.hm_shape.specs.Words.{naming_word}
-use Rattle.hm_moves.specs.declared.part.Known.{Known}
-use Rattle.hm_moves.specs.Acts.{listed, where_zero}
-use Rattle.hm_moves.specs.After.{is_version, without, with_held, is_naming, unless_named, unnamed_from, unnamed, nothing_written}
-use Rattle.hm_moves.specs.Allowed.{IsWritten, Names}
+use Rattle.hm_moves.proofs.Words.{list_any, common_steps, Contains-push_cases, Contains-append_left, dec_le, naming_word, Known, listed, where_zero, is_version, without, with_held, is_naming, unless_named, unnamed_from, unnamed, nothing_written, IsWritten, Names}
 
 -- a list with one more or none
 pub listed_cases : {A : Type 0} (l : List A) (o : Option A) (a : A) → Contains (l ++ listed o) a

@@ -1,16 +1,6 @@
 -- Histories, their beginnings, and one entry more.
 use Rattle.std.proofs.Common.{◌≡◌, ◌≢◌, ◌<◌, ◌≤◌, ℕ, eq-eqb, ne_eqb, Bool, true, false, List, [], ◌∷◌, ◌++◌, length, nat_lt, Option, Some, None, IfSome, if◌then◌else◌, refl, sym, ap, ◌∙◌, subst, append_assoc, append-nil, arith}
-use Rattle.std.proofs.lemmas.Bool.Decides.{nat_tests}
-use Rattle.std.proofs.lemmas.List.Elements.{All-nil, All-cons, All-head, All-tail}
-use Rattle.hm_model.specs.declared.object.Start.{Start}
-use Rattle.hm_model.specs.declared.entry.Entry.{Entry}
-use Rattle.hm_model.specs.Store.{PlainStore}
-use Rattle.hm_model.specs.Effect.{caller_of, Stands}
-use Rattle.hm_model.specs.History.{store_after, store_of, AllStand, calls_of, AreOthers, opening_of}
-use Rattle.hm_model.specs.Lawful.{MayCome, AllCome, IsLawful, UsageLaws, MayMake}
-use Rattle.hm_model.proofs.HistoryFacts.{store_after-append, calls_of-append, all_stand_parts, all_come_parts, lawful_more}
-use Rattle.hm_moves.specs.Acts.{listed}
-use Rattle.hm_moves.specs.Good.{Begins, AreBelow, longer, HasCalls}
+use Rattle.hm_moves.proofs.Words.{nat_tests, All-nil, All-cons, All-head, All-tail, Start, Entry, PlainStore, caller_of, Stands, store_after, store_of, AllStand, calls_of, AreOthers, opening_of, MayCome, AllCome, IsLawful, UsageLaws, MayMake, store_after-append, calls_of-append, all_stand_parts, all_come_parts, lawful_more, listed, Begins, AreBelow, longer, HasCalls}
 
 -- the entry, if there is one, is by this caller
 abbrev pub IsBy : ℕ → Option Entry → Type 0

@@ -1,16 +1,6 @@
 -- Where versions lie, how they are counted, and one version more.
 use Rattle.std.proofs.Common.{◌≡◌, ◌≢◌, ◌⊎◌, ◌<◌, ◌≤◌, ◌+◌, ◌*◌, ℕ, zero, suc, eqb, eq-eqb, ne_eqb, true, false, List, length, slice_index, slice_set, Option, Some, None, refl, sym, ap, ◌∙◌, subst, arith, inl, inr, ⊎_elim, get_or-set_other, get_or-set_same, suc-mul, mul-le-mul_right, lt_of_not-le, IsSome, Bool, mul-le-mul_left, if◌then◌else◌, mul-suc, mul_assoc}
-use Rattle.std.proofs.lemmas.Bool.Decides.{eqb_tells}
-use native.Mathlib.Decide.{ℕ_discrete, dec_le}
-use mathlib.Core.Logic.{dite}
-use Rattle.hm_shape.specs.declared.shape.Shape.{Shape}
-use Rattle.hm_shape.specs.declared.version.Version.{Version}
-use Rattle.hm_shape.specs.Versions.{IsVersionOf}
-use Rattle.hm_shape.specs.Words.{word_at, word_count}
-use Rattle.hm_model.specs.declared.object.Name.{Name}
-use Rattle.hm_moves.specs.declared.part.Known.{Known}
-use Rattle.hm_moves.specs.Chain.{Index, IsPublished, with_one, words_at, Refers, Follows, HasContents, AreTrue, reference_at}
-use Rattle.hm_moves.specs.Places.{IsSizedVersion, ArePlaced, row_count, total, raised, Places, rank_limit, AreRanked, places_with}
+use Rattle.hm_moves.proofs.Words.{eqb_tells, ℕ_discrete, dec_le, dite, Shape, Version, IsVersionOf, word_at, word_count, Name, Known, Index, IsPublished, with_one, words_at, Refers, Follows, HasContents, AreTrue, reference_at, IsSizedVersion, ArePlaced, row_count, total, raised, Places, rank_limit, AreRanked, places_with}
 
 -- a version that is published last is published
 pub published_here : (index : Index) (k : Known) → IsPublished (with_one index k) k

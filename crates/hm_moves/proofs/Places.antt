@@ -1,7 +1,6 @@
 -- Elements of lists by place, after one is replaced and after lists are put together.
 use Rattle.std.proofs.Common.{◌≡◌, ◌≢◌, ◌⊎◌, ℕ, zero, suc, ◌+◌, ◌<◌, List, [], ◌∷◌, ◌++◌, length, set, refl, sym, ap, subst, arith, ⊎_elim, inl, inr}
-use mathlib.Core.Option.{some, some-injective, some-ne-none}
-use lib.ListN.{get_elem?}
+use Rattle.hm_moves.proofs.Words.{some, some-injective, some-ne-none, get_elem?}
 
 module _ {A : Type 0} where
   -- an element is the one that was put there, or one from before
