@@ -4,7 +4,7 @@ pub use Rattle.std.specs.Prelude.{slice_get}
 pub use Rattle.std.proofs.lemmas.Bool.Decides.{nat_tests, eqb_tells}
 pub use Rattle.std.proofs.lemmas.Grind.{flat_map-append, common_steps}
 pub use Rattle.std.proofs.lemmas.List.{length-append, length-map, length-replicate, get_or_append_left, get_or-append-add, get_or-map, get_or-replicate, map-append, set-get_or, take_all}
-pub use Rattle.std.proofs.lemmas.List.Elements.{All-nil, All-cons, All-append, All-get_or, All-head, All-tail, Contains-append_right, Contains-push_cases, Contains-append_left, Contains-push}
+pub use Rattle.std.proofs.lemmas.List.Elements.{All-contains, All-contains_itself, All-filter, All-nil, All-cons, All-append, All-get_or, All-head, All-tail, Contains-append_right, Contains-push_cases, Contains-append_left, Contains-push}
 pub use Rattle.std.proofs.lemmas.Nat.{mul-lt}
 pub use Rattle.std.proofs.lemmas.Option.{get_or_from_slice_get, slice_get-get_or, slice_get_within, slice_get_past}
 pub use mathlib.Core.Logic.{dite}
