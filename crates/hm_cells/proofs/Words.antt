@@ -2,8 +2,10 @@
 pub use Rattle.std.specs.List.{list_any, find}
 pub use Rattle.std.specs.Option.{option_map, option_to_list}
 pub use Rattle.std.specs.Prelude.{◌==◌, slice_get, slice_index, unwrap_or, ◌++◌, ◌≡◌, ◌-◌, []}
+pub use Rattle.std.proofs.lemmas.Grind.{common_steps}
+pub use Rattle.std.proofs.lemmas.Bool.Decides.{eqb_tells, nat_tests}
 pub use Rattle.std.proofs.lemmas.List.{length-replicate, length-map, map-set, map-append, set-get_or}
-pub use Rattle.std.proofs.lemmas.List.Elements.{All-append, All-cons, All-nil, All-set, All-replicate, Contains-push, All-contains_itself, Contains-append_cases, All-contains, Contains-append_right}
+pub use Rattle.std.proofs.lemmas.List.Elements.{Contains-append_left, All-append, All-cons, All-nil, All-set, All-replicate, Contains-push, All-contains_itself, Contains-append_cases, All-contains, Contains-append_right}
 pub use Rattle.std.proofs.lemmas.List.Folds.{find-append, list_any-append, Any-from_list_any}
 pub use mathlib.Core.Logic.{dite}
 pub use mathlib.Core.Option.{some, some-injective, some-ne-none}
@@ -44,7 +46,7 @@ pub use Rattle.hm_moves.specs.declared.part.Site.{Site}
 pub use Rattle.hm_moves.specs.declared.part.View.{View}
 pub use Rattle.hm_moves.proofs.Enabling.{enabled_lawful}
 pub use Rattle.hm_moves.proofs.Fresh.{many, numbered, numbered_at, good_fresh}
-pub use Rattle.hm_moves.proofs.Held.{held_stays, some_more, names_without, unnamed_was, unnamed_wide, without_held}
+pub use Rattle.hm_moves.proofs.Held.{each_some, from_some, contains_behind, contains_first, contains_here, filter_still, held_stays, some_more, names_without, unnamed_was, unnamed_wide, without_held}
 pub use Rattle.hm_moves.proofs.Histories.{come_behind, nothing_more, others_only, begins_more, left_begins, lawful_before}
 pub use Rattle.hm_moves.proofs.Placed.{published_once, rank_small}
 pub use Rattle.hm_moves.proofs.Places.{set_here, at_end, at_later, at_longer, at_set, set_else}

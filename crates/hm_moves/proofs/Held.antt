@@ -14,6 +14,11 @@ pub from_some : {A : Type 0} (P : A → Type 0) (o : Option A) (a : A) → o ≡
 from_some P None a e h = cc
 from_some P (Some b) a e h = let is : b ≡ a = cc in subst P is h
 
+-- what holds of each that it may be, holds of what there is
+pub each_some : {A : Type 0} (P : A → Type 0) (o : Option A) → ((a : A) → o ≡ Some a → P a) → IfSome o P
+each_some P None f = tt
+each_some P (Some a) f = f a refl
+
 -- what there is has what follows from what it has
 pub some_more : {A : Type 0} (P Q : A → Type 0) → ((a : A) → P a → Q a) → (o : Option A) → IfSome o P
     → IfSome o Q
