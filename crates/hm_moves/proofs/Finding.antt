@@ -10,16 +10,13 @@ use Rattle.hm_moves.proofs.Held.{zero_some, some_more}
 -- a word that refers names the version that is looked up
 refers_found : (index : Index) (w : ℕ) (r : Option Name) → Refers index w r
     → IsReference w (lookup index w) r × IfSome (lookup index w) (IsPublished index)
-refers_found index w None h =
-    subst (λ (x : ℕ). IsReference x (lookup index x) None × IfSome (lookup index x) (IsPublished index))
-    (sym h)
-    ((refl, refl), tt)
-refers_found index w (Some n) h =
-    let k : Known = h.0 in
-    let at : w ≡ suc k.version.0 = h.2 ∙ omega arith in
-    let found : lookup index w ≡ Some k = ap (lookup index) at ∙ h.1 in
-    subst (λ (o : Option Known). IsReference w o (Some n) × IfSome o (IsPublished index)) (sym found)
-    ((h.2, ap (λ (x : Name). Some x) (sym h.3)), h.1)
+refers_found index zero None h = ((refl, refl), tt)
+refers_found index (suc v) None h = absurd (omega arith)
+refers_found index zero (Some n) h = let a = h.2 in absurd (omega arith)
+refers_found index (suc v) (Some n) h = let same : v ≡ h.0.version.0 = let a = h.2 in omega arith in
+    let found : index v ≡ Some h.0 = ap index same ∙ h.1 in
+    subst (λ (o : Option Known). IsReference (suc v) o (Some n) × IfSome o (IsPublished index)) (sym found)
+    ((h.2, ap Some (sym h.3)), h.1)
 
 -- and so does a link
 linked_found : (index : Index) (store : PlainStore) (at : Known) (x : ℕ) → IsLinked index store at x

@@ -1,6 +1,6 @@
 -- Lists of held versions, and words of a draft that name them.
-use Rattle.std.proofs.Common.{◌≡◌, ◌≢◌, ◌⊎◌, ◌<◌, ◌≤◌, ◌+◌, ℕ, zero, suc, Bool, true, false, cond, not, filter, eqb, eq-eqb, ne_eqb, ◌&&◌, List, [], ◌∷◌, ◌++◌, length, get_or, replicate, Option, Some, None, IfSome, Contains, if◌then◌else◌, refl, sym, ap, ◌∙◌, subst, arith, inl, inr, ⊎_elim, append-nil}
-use Rattle.hm_moves.proofs.Words.{All-contains, All-contains_itself, All-filter, list_any, common_steps, Contains-push_cases, Contains-append_left, dec_le, naming_word, Known, listed, where_zero, is_version, without, with_held, is_naming, unless_named, unnamed_from, unnamed, nothing_written, IsWritten, Names, nat_tests}
+use Rattle.std.proofs.Common.{◌≡◌, ◌≢◌, ◌⊎◌, ◌<◌, ◌≤◌, ◌+◌, ℕ, zero, suc, Bool, true, false, cond, not, filter, ne_eqb, List, [], ◌∷◌, ◌++◌, length, get_or, replicate, Option, Some, None, IfSome, Contains, refl, sym, ap, ◌∙◌, subst, arith, inl, inr, ⊎_elim, append-nil}
+use Rattle.hm_moves.proofs.Words.{All-contains, All-contains_itself, All-filter, common_steps, Contains-push_cases, Contains-append_left, naming_word, Known, listed, where_zero, is_version, without, with_held, is_naming, unless_named, unnamed_from, unnamed, nothing_written, IsWritten, Names, nat_tests}
 
 -- a list with one more or none
 pub listed_cases : {A : Type 0} (l : List A) (o : Option A) (a : A) → Contains (l ++ listed o) a
