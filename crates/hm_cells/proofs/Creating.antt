@@ -1,16 +1,7 @@
 -- A pass that writes the words of its next version, one after another.
 use Rattle.std.proofs.Common.{◌≡◌, ◌<◌, ◌≤◌, ◌+◌, ℕ, ◌++◌, length, Option, is_some, refl, sym, ap, ◌∙◌, subst, arith, inl, inr, append-nil, unwrap_or}
-use native.Mathlib.Decide.{ℕ_discrete}
-use mathlib.Core.Logic.{dite}
-use Rattle.hm_model.specs.declared.entry.Entry.{Entry}
-use Rattle.hm_model.specs.Store.{PlainStore}
-use Rattle.hm_moves.specs.declared.part.Known.{Known}
+use Rattle.hm_cells.proofs.Words.{ℕ_discrete, dite, Entry, PlainStore, Known, Looks, Builds, StoreOwn, HasRoom, IsWritten, Facts, Fits, IsAtRest, IsSound, Made, IsWhole, Takes, taken}
 use Rattle.hm_moves.specs.declared.moving.Act.{Act}
-use Rattle.hm_moves.specs.declared.moving.Act.TheVariants.{Looks, Builds}
-use Rattle.hm_moves.specs.declared.moving.Build.TheVariants.{StoreOwn}
-use Rattle.hm_moves.specs.Allowed.{HasRoom, IsWritten}
-use Rattle.hm_cells.specs.Facts.{Facts, Fits, IsAtRest, IsSound, Made}
-use Rattle.hm_cells.specs.Calls.{IsWhole, Takes, taken}
 use Rattle.hm_cells.proofs.Stepped.{held_few, written_here, written_stays}
 
 module _ {U : Type 0} (lawful : U → PlainStore → Type 0) (allowed : U → PlainStore → Entry → Type 0) where

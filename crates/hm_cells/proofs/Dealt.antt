@@ -1,20 +1,6 @@
 -- One caller more has a pass of its own.
 use Rattle.std.proofs.Common.{◌≡◌, ◌<◌, ℕ, zero, suc, List, [], ◌∷◌, ◌++◌, length, get_or, replicate, Option, Some, None, Contains, All, refl, sym, ap, ◌∙◌, arith, append_assoc, get_or-set_same, get_or-set_other}
-use Rattle.std.specs.Option.{option_map}
-use Rattle.std.proofs.lemmas.List.{length-replicate}
-use Rattle.std.proofs.lemmas.List.Elements.{All-append, All-cons, All-nil}
-use Rattle.hm_shape.specs.declared.version.Version.{Version}
-use Rattle.hm_model.specs.Sight.{IsFresh}
-use Rattle.hm_moves.specs.declared.part.Known.{Known}
-use Rattle.atomic_table.specs.Seated.{TableId}
-use Rattle.hm_model.specs.History.{opening_of}
-use Rattle.hm_moves.specs.declared.part.Site.{Site}
-use Rattle.hm_moves.specs.declared.part.Part.{Part}
-use Rattle.hm_moves.specs.declared.part.View.{View}
-use Rattle.hm_moves.specs.Fresh.{common_known, fresh_part}
-use Rattle.hm_moves.specs.After.{view}
-use Rattle.hm_cells.specs.Facts.{Facts, Fits, IsAtRest, place_name, sight_of}
-use Rattle.hm_cells.specs.Making.{back, first_roots, fresh_pass, fresh_passes, front, newcomer, newcomers}
+use Rattle.hm_cells.proofs.Words.{option_map, length-replicate, All-append, All-cons, All-nil, Version, IsFresh, Known, TableId, opening_of, Site, Part, View, common_known, fresh_part, view, Facts, Fits, IsAtRest, place_name, sight_of, back, first_roots, fresh_pass, fresh_passes, front, newcomer, newcomers}
 use Rattle.hm_cells.proofs.Found.{there_is}
 use Rattle.hm_cells.proofs.Rooted.{name_place}
 

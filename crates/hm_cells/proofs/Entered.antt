@@ -1,18 +1,7 @@
 -- What the callers' trait sees of a caller that has seen more.
 use Rattle.std.proofs.Common.{◌≡◌, ℕ, List, [], ◌∷◌, ◌++◌, Option, Some, None, IfSome, sym, ap, ◌∙◌, subst, append-nil, append_assoc}
-use Rattle.hm_model.specs.declared.object.Start.{Start}
-use Rattle.hm_model.specs.declared.entry.Entry.{Entry}
-use Rattle.hm_model.specs.Store.{PlainStore}
-use Rattle.hm_model.specs.Effect.{caller_of}
-use Rattle.hm_model.specs.History.{calls_of, opening_of, AreOthers}
-use Rattle.hm_model.specs.Lawful.{IsLawful}
-use Rattle.hm_model.specs.Sight.{Sight, IsSameCaller, HasHistory, Goes}
+use Rattle.hm_cells.proofs.Words.{Start, Entry, PlainStore, caller_of, calls_of, opening_of, AreOthers, IsLawful, Sight, IsSameCaller, HasHistory, Goes, listed, seen_after, Begins, come_behind, nothing_more, Tells}
 use Rattle.hm_model.proofs.HistoryFacts.{calls_of-append}
-use Rattle.hm_moves.specs.Acts.{listed}
-use Rattle.hm_moves.specs.After.{seen_after}
-use Rattle.hm_moves.specs.Good.{Begins}
-use Rattle.hm_moves.proofs.Histories.{come_behind, nothing_more}
-use Rattle.hm_cells.specs.Calls.{Tells}
 
 module _ {U : Type 0} (lawful : U → PlainStore → Type 0) (allowed : U → PlainStore → Entry → Type 0)
     (c d : Sight U) (caller : IsSameCaller c d) (opened : Begins (opening_of c.start) c.seen)

@@ -1,25 +1,8 @@
 -- The acts that load words, and what they take into the hand.
 use Rattle.std.proofs.Common.{◌≡◌, ◌⊎◌, ◌<◌, ◌≤◌, ◌+◌, ◌-◌, ◌*◌, ◌^◌, ℕ, suc, Bool, true, false, eqb-true, Option, Some, None, IfSome, if◌then◌else◌, refl, sym, ap, ◌∙◌, arith, nat_lt, inl, inr}
-use Rattle.std.specs.Prelude.{◌==◌}
-use Rattle.std.specs.Option.{option_to_list}
+use Rattle.hm_cells.proofs.Words.{◌==◌, option_to_list, Shape, Version, version_count, word_at, naming_word, Name, Entry, Known, Part, Look, Looks, Builds, LoadStamp, LoadReference, LoadNumber, LoadLink, IsFit, word_of, becomes, publishes, field_look, HasHand, MayHold, MayLookInto, MayTake, MayLook, Found, IsReference, IsLink, LookFound, taken, version_in}
 use Rattle.std.proofs.lemmas.Nat.{mul-le}
 use Rattle.std.proofs.lemmas.Bool.Decides.{nat_tests}
-use Rattle.hm_shape.specs.declared.shape.Shape.{Shape}
-use Rattle.hm_shape.specs.declared.version.Version.{Version}
-use Rattle.hm_shape.specs.Versions.{version_count}
-use Rattle.hm_shape.specs.Words.{word_at, naming_word}
-use Rattle.hm_model.specs.declared.object.Name.{Name}
-use Rattle.hm_model.specs.declared.entry.Entry.{Entry}
-use Rattle.hm_moves.specs.declared.part.Known.{Known}
-use Rattle.hm_moves.specs.declared.part.Part.{Part}
-use Rattle.hm_moves.specs.declared.moving.Look.{Look}
-use Rattle.hm_moves.specs.declared.moving.Act.TheVariants.{Looks, Builds}
-use Rattle.hm_moves.specs.declared.moving.Look.TheVariants.{LoadStamp, LoadReference, LoadNumber, LoadLink}
-use Rattle.hm_moves.specs.Places.{IsFit}
-use Rattle.hm_moves.specs.Acts.{word_of, becomes, publishes, field_look}
-use Rattle.hm_moves.specs.Allowed.{HasHand, MayHold, MayLookInto, MayTake, MayLook}
-use Rattle.hm_moves.specs.Told.{Found, IsReference, IsLink, LookFound}
-use Rattle.hm_cells.specs.Calls.{taken, version_in}
 
 -- a word from 1 to 15 is the stamp, a reference or a number
 pub field_cases : (P : Look → Type 0) (k : Known) (i : ℕ) → 0 < i → i < 16 → (i ≡ 1 → P (LoadStamp k))

@@ -1,93 +1,43 @@
 -- Held versions by their numbers, and which of them stay held.
 use Rattle.std.proofs.Common.{◌≡◌, ◌≢◌, ◌⊎◌, ◌||◌, ℕ, zero, suc, Bool, true, false, true≢false, cond, not, filter, eq-eqb, ne_eqb, eqb-true, List, [], ◌∷◌, ◌++◌, get_or, map, Option, Some, None, IsSome, IfSome, is_some, Contains, All, if◌then◌else◌, refl, sym, ap, ◌∙◌, arith, ⊎_elim}
-use Rattle.std.specs.Prelude.{◌==◌}
-use Rattle.std.specs.List.{find, list_any}
-use Rattle.std.specs.Option.{option_map}
-use Rattle.std.proofs.lemmas.List.Folds.{find-append, list_any-append}
-use Rattle.hm_shape.specs.declared.version.Version.{Version}
-use Rattle.hm_moves.specs.declared.part.Known.{Known}
-use Rattle.hm_moves.specs.After.{is_version, without, with_held}
-use Rattle.hm_cells.specs.Facts.{find_version, IsAmong, place_name, is_kept, first_idle}
-use Rattle.hm_moves.specs.Good.{AreApart}
+use Rattle.hm_cells.proofs.Words.{each_some, contains_behind, contains_first, contains_here, eqb_tells, common_steps, ◌==◌, find, list_any, option_map, find-append, list_any-append, Version, Known, is_version, without, with_held, find_version, IsAmong, place_name, is_kept, first_idle, AreApart, unwrap_or, Begins}
 
 module _ {X : Type 0} where
-  behind : (x y : X) (xs : List X) → Contains xs x → Contains (y ∷ xs) x
-  behind x y xs (k, low, is) = (suc k, (omega arith), is)
-
   -- an element that a list has at a place
   pub at_place : (xs : List X) (i : ℕ) (x d : X) → get_or xs i d ≡ x → d ≢ x → Contains xs x
   at_place [] i x d e ne = absurd (ne e)
   at_place (y ∷ ys) zero x d e ne = (zero, omega arith, e)
-  at_place (y ∷ ys) (suc i) x d e ne = behind x y ys (at_place ys i x d e ne)
+  at_place (y ∷ ys) (suc i) x d e ne = contains_behind x y ys (at_place ys i x d e ne)
 
   module _ (p : X → Bool) where
     -- what is found is there, and passes
     pub find_passes : (xs : List X) (x : X) → find p xs ≡ Some x → Contains xs x × (p x ≡ true)
     find_passes [] x h = absurd (cc)
-    find_passes (y ∷ ys) x h = go (p y) refl (find_passes ys x) h
-      where
-        go : (t : Bool) → p y ≡ t → (find p ys ≡ Some x → Contains ys x × (p x ≡ true))
-            → cond t (Some y) (find p ys) ≡ Some x → Contains (y ∷ ys) x × (p x ≡ true)
-        go true is rest e = let same : y ≡ x = cc in ((zero, omega arith, same), ap p (sym same) ∙ is)
-        go false is rest e = let r = rest e in (behind x y ys r.0, r.1)
+    find_passes (y ∷ ys) x h =
+        grind (arith, common_steps, find_passes ys x, contains_behind x y ys, contains_here x y ys)
 
     -- where none is found, none passes
     pub find_none : (xs : List X) (x : X) → find p xs ≡ None → Contains xs x → p x ≡ false
     find_none [] x h c = absurd (let low = c.1 in omega arith)
-    find_none (y ∷ ys) x h (zero, low, is) = go (p y) refl h
-      where
-        go : (t : Bool) → p y ≡ t → cond t (Some y) (find p ys) ≡ None → p x ≡ false
-        go true e k = cc
-        go false e k = ap p (sym is) ∙ e
-    find_none (y ∷ ys) x h (suc i, low, is) = go (p y) h (λ k. find_none ys x k (i, omega arith, is))
-      where
-        go : (t : Bool) → cond t (Some y) (find p ys) ≡ None → (find p ys ≡ None → p x ≡ false) → p x ≡ false
-        go true k rest = cc
-        go false k rest = rest k
+    find_none (y ∷ ys) x h c = grind (arith, common_steps, find_none ys x, contains_first x y ys c)
 
     pub any_none : (xs : List X) (x : X) → list_any p xs ≡ false → Contains xs x → p x ≡ false
     any_none [] x h c = absurd (let low = c.1 in omega arith)
-    any_none (y ∷ ys) x h (zero, low, is) = go (p y) refl h
-      where
-        go : (t : Bool) → p y ≡ t → (t || list_any p ys) ≡ false → p x ≡ false
-        go true e k = cc
-        go false e k = ap p (sym is) ∙ e
-    any_none (y ∷ ys) x h (suc i, low, is) = go (p y) h (λ k. any_none ys x k (i, omega arith, is))
-      where
-        go : (t : Bool) → (t || list_any p ys) ≡ false → (list_any p ys ≡ false → p x ≡ false) → p x ≡ false
-        go true k rest = cc
-        go false k rest = rest k
+    any_none (y ∷ ys) x h c = grind (arith, common_steps, any_none ys x, contains_first x y ys c)
 
     -- one that passes is found, or another
     pub find_some : (xs : List X) (x : X) → Contains xs x → p x ≡ true → IsSome (find p xs)
-    find_some xs x c pass = go (find p xs) refl
-      where
-        go : (o : Option X) → find p xs ≡ o → IsSome (find p xs)
-        go None e = absurd (true≢false (sym pass ∙ find_none xs x e c))
-        go (Some y) e = ap is_some e
+    find_some xs x c pass = grind (arith, common_steps, find_none xs x)
 
     module _ (f : X → Bool) where
       -- what is found stays so, where all that pass stay
       pub find_filter : ((x : X) → p x ≡ true → f x ≡ true) → (xs : List X) → find p (filter f xs) ≡ find p xs
       find_filter h [] = refl
-      find_filter h (y ∷ ys) = go (f y) refl (p y) refl (find_filter h ys)
-        where
-          go : (b : Bool) → f y ≡ b → (a : Bool) → p y ≡ a → find p (filter f ys) ≡ find p ys
-              → find p (cond b (y ∷ filter f ys) (filter f ys)) ≡ cond (p y) (Some y) (find p ys)
-          go true eb a ea ih = ap (cond (p y) (Some y)) ih
-          go false eb true ea ih = absurd (true≢false (sym (h y ea) ∙ eb))
-          go false eb false ea ih = ih ∙ sym (ap (λ (t : Bool). cond t (Some y) (find p ys)) ea)
+      find_filter h (y ∷ ys) = grind (arith, common_steps, find_filter h ys, h y)
 
       pub any_filter : (xs : List X) → list_any p xs ≡ false → list_any p (filter f xs) ≡ false
       any_filter [] h = refl
-      any_filter (y ∷ ys) h = go (f y) (p y) refl h (any_filter ys)
-        where
-          go : (b : Bool) (a : Bool) → p y ≡ a → (a || list_any p ys) ≡ false
-              → (list_any p ys ≡ false → list_any p (filter f ys) ≡ false)
-              → list_any p (cond b (y ∷ filter f ys) (filter f ys)) ≡ false
-          go b true ea e rest = cc
-          go true false ea e rest = ap (λ (t : Bool). t || list_any p (filter f ys)) ea ∙ rest e
-          go false false ea e rest = rest e
+      any_filter (y ∷ ys) h = grind (arith, common_steps, any_filter ys)
 
 -- the test by which a version is found
 abbrev pub is_at : Version → Known → Bool
@@ -109,11 +59,8 @@ there_found l k c = find_some (is_at k.version) l k c (eq-eqb k.version.0 k.vers
 
 -- which it is
 pub among : (l : List Known) (v : Version) → IsAmong l v → (k : Known) × (find_version l v ≡ Some k)
-among l v h = go (find_version l v) refl h
-  where
-    go : (o : Option Known) → find_version l v ≡ o → IsSome o → (k : Known) × (find_version l v ≡ Some k)
-    go None e s = absurd (cc)
-    go (Some k) e s = (k, e)
+among l v h = elim (find_version l v) as (λ o. IsSome o → (k : Known) × (o ≡ Some k))
+    [ None ↦ λ s. absurd (cc) | Some k ↦ λ s. (k, refl) ] h
 
 -- it is this one, where one number is one version
 pub there_is : (l : List Known) (k : Known) → Contains l k
@@ -133,11 +80,7 @@ found_first l m v k e = find-append (is_at v) l m
 pub found_with : (l : List Known) (o : Option Known) (v : Version) (k : Known) → find_version l v ≡ Some k
     → find_version (with_held l o) v ≡ Some k
 found_with l None v k e = e
-found_with l (Some n) v k e = go (list_any (is_version n) l)
-  where
-    go : (t : Bool) → find_version (if t then l else l ++ n ∷ []) v ≡ Some k
-    go true = e
-    go false = found_first l (n ∷ []) v k e
+found_with l (Some n) v k e = grind (arith, common_steps, found_first l (n ∷ []) v k e)
 
 pub found_without : (l : List Known) (o : Option Known) (v : Version) → IfSome o (λ k. k.version.0 ≢ v.0)
     → find_version (without l o) v ≡ find_version l v
@@ -149,38 +92,18 @@ found_without l (Some n) v h = find_filter (is_at v) (λ m. not (is_version n m)
 abbrev pub IsNamed : List (Option Version) → List Version → Version → Type 0
 IsNamed roots hand v = Contains roots (Some v) ⊎ Contains hand v
 
-or_false : (a b : Bool) → (a || b) ≡ false → (a ≡ false) × (b ≡ false)
-or_false true b e = cc
-or_false false b e = (refl, e)
-
-not_true : (a : Bool) → not a ≡ true → a ≡ false
-not_true true e = cc
-not_true false e = refl
-
 -- what is let go of is named by none
 pub idle_other : (roots : List (Option Version)) (hand : List Version) (held : List Known) (v : Version)
     → IsNamed roots hand v → IfSome (first_idle roots hand held) (λ k. k.version.0 ≢ v.0)
-idle_other roots hand held v named = go (first_idle roots hand held) refl
-  where
-    apart : (k : Known) → (k.version.0 == v.0) ≡ false → k.version.0 ≢ v.0
-    apart k e same = true≢false (sym (eq-eqb k.version.0 v.0 same) ∙ e)
-
-    go : (o : Option Known) → first_idle roots hand held ≡ o → IfSome o (λ k. k.version.0 ≢ v.0)
-    go None e = tt
-    go (Some k) e =
-        let r = find_passes (λ (m : Known). not (is_kept roots hand m)) held k e in
-        let both = or_false
-        (list_any (λ (o : Option Version). Rattle.std.specs.Prelude.unwrap_or (option_map (λ
-        (w : Version). k.version.0 == w.0) o) false) roots)
-        (list_any (λ (w : Version). k.version.0 == w.0) hand)
-        (not_true (is_kept roots hand k) r.1) in
-        apart k (⊎_elim
-        (λ (t : Contains roots (Some v)).
-        any_none (λ (o : Option Version). Rattle.std.specs.Prelude.unwrap_or (option_map (λ
-        (w : Version). k.version.0 == w.0) o) false)
-        roots (Some v) both.0 t)
-        (λ (t : Contains hand v). any_none (λ (w : Version). k.version.0 == w.0) hand v both.1 t)
-        named)
+idle_other roots hand held v named =
+    each_some (λ k. k.version.0 ≢ v.0) (first_idle roots hand held) (λ k e same.
+    let r = find_passes (λ (m : Known). not (is_kept roots hand m)) held k e in
+    let is = eq-eqb k.version.0 v.0 same in ⊎_elim
+    (λ (t : Contains roots (Some v)). let none = any_none (λ (o : Option Version). unwrap_or (option_map (λ
+    (w : Version). k.version.0 == w.0) o) false) roots (Some v) in grind (arith, common_steps))
+    (λ (t : Contains hand v). let none = any_none (λ (w : Version). k.version.0 == w.0) hand v in
+    grind (arith, common_steps))
+    named)
 
 -- what is held after a move
 abbrev pub held_after : List (Option Version) → List Version → List Known → Option Known → Option Known
@@ -206,52 +129,36 @@ pub names_stay : (held held' : List Known) (roots : List (Option Version))
     → All (λ r. IfSome r (IsAmong held)) roots → map (place_name held') roots ≡ map (place_name held) roots
 names_stay held held' [] f all = refl
 names_stay held held' (r ∷ rs) f all = λ i.
-    one r (f' r) (all zero r (omega arith)) i
-    ∷ names_stay held held' rs (λ v k c e. f v k (behind (Some v) r rs c) e) (λ j d low. all (suc j) d
+    one r refl (all zero r (omega arith)) i
+    ∷ names_stay held held' rs (λ v k c. f v k (contains_behind (Some v) r rs c)) (λ j d low. all (suc j) d
     (omega arith)) i
   where
-    f' : (x : Option Version) → (v : Version) (k : Known) → r ≡ Some v → find_version held v ≡ Some k
-        → find_version held' v ≡ Some k
-    f' x v k is e = f v k (zero, omega arith, is) e
-
-    one : (x : Option Version) → ((v : Version) (k : Known) → x ≡ Some v → find_version held v ≡ Some k
-        → find_version held' v ≡ Some k)
-        → IfSome x (IsAmong held) → place_name held' x ≡ place_name held x
-    one None g h = refl
-    one (Some v) g h =
+    one : (x : Option Version) → r ≡ x → IfSome x (IsAmong held) → place_name held' x ≡ place_name held x
+    one None e h = refl
+    one (Some v) e h =
         let m = among held v h in
-        ap (option_map (λ (k : Known). k.name)) (g v m.0 refl m.1 ∙ sym m.1)
+        ap (option_map (λ (k : Known). k.name)) (f v m.0 (zero, omega arith, e) m.1 ∙ sym m.1)
 
 -- held versions stay apart
 apart_filter : (f : Known → Bool) (l : List Known) → AreApart l → AreApart (filter f l)
 apart_filter f [] h = tt
-apart_filter f (k ∷ ks) h = go (f k) (apart_filter f ks h.1) (any_filter (is_version k) f ks h.0)
-  where
-    go : (t : Bool) → AreApart (filter f ks) → list_any (is_version k) (filter f ks) ≡ false
-        → AreApart (cond t (k ∷ filter f ks) (filter f ks))
-    go true a b = (b, a)
-    go false a b = a
+apart_filter f (k ∷ ks) h =
+    let rest = apart_filter f ks h.1 in
+    elim (f k) as (λ t. AreApart (cond t (k ∷ filter f ks) (filter f ks)))
+    [ true ↦ (any_filter (is_version k) f ks h.0, rest) | false ↦ rest ]
 
 apart_snoc : (l : List Known) (k : Known) → AreApart l → list_any (is_version k) l ≡ false
     → AreApart (l ++ k ∷ [])
 apart_snoc [] k h none = (refl, tt)
 apart_snoc (m ∷ ms) k h none =
-    let both = or_false (is_version k m) (list_any (is_version k) ms) none in
-    let other : is_version m k ≡ false =
-    ne_eqb k.version.0 m.version.0 (λ e. true≢false (sym (eq-eqb m.version.0 k.version.0 (sym e))
-    ∙ both.0)) in (
-      list_any-append (is_version m) ms (k ∷ [])
-          ∙ (ap (λ (t : Bool). t || (is_version m k || false)) h.0 ∙ ap (λ (t : Bool). t || false) other),
-      apart_snoc ms k h.1 both.1,
+    let other = eqb_tells k.version.0 m.version.0 in let self = eqb_tells m.version.0 k.version.0 in (
+      rw (list_any-append (is_version m) ms (k ∷ [])) (grind (arith, common_steps)),
+      apart_snoc ms k h.1 (grind (arith, common_steps)),
     )
 
 apart_with : (l : List Known) (o : Option Known) → AreApart l → AreApart (with_held l o)
 apart_with l None h = h
-apart_with l (Some k) h = go (list_any (is_version k) l) refl
-  where
-    go : (t : Bool) → list_any (is_version k) l ≡ t → AreApart (if t then l else l ++ k ∷ [])
-    go true e = h
-    go false e = apart_snoc l k h e
+apart_with l (Some k) h = grind (arith, common_steps, apart_snoc l k h)
 
 pub apart_without : (l : List Known) (o : Option Known) → AreApart l → AreApart (without l o)
 apart_without l None h = h

@@ -1,30 +1,9 @@
 -- The passes of a fresh heap.
 use Rattle.std.proofs.Common.{◌≡◌, ◌≢◌, ◌⊎◌, ◌<◌, ◌≤◌, ◌+◌, ◌*◌, ℕ, zero, suc, Bool, true, false, cond, is_some, eqb, eq-eqb, ne_eqb, List, [], ◌∷◌, ◌++◌, length, get_or, replicate, set, Option, Some, None, IfSome, All, refl, sym, ap, ◌∙◌, subst, arith, ⊎_elim, length-set, length-append}
-use Rattle.std.specs.Prelude.{slice_get}
-use mathlib.Core.Option.{some}
-use lib.ListN.{get_elem?}
-use Rattle.std.proofs.lemmas.List.{length-replicate}
-use Rattle.std.proofs.lemmas.List.Elements.{All-set, All-replicate}
+use Rattle.hm_cells.proofs.Words.{slice_get, some, get_elem?, length-replicate, All-set, All-replicate, TableId, Me, Seat, Version, version_at, Start, Entry, Numbers, PlainStore, opening_of, starting_count, IsSizedStart, Known, Site, Part, all_known}
+use Rattle.hm_cells.proofs.Words.{common_known, fresh_part, side_known, Knowledge, Gripped, IsAmong, IsSound, IsSure, IsSeated, caller_in, facts_of, knowledge, first_roots, first_used, fresh_pass, newcomer, many, numbered, numbered_at}
 use Rattle.std.proofs.lemmas.List.Sums.{sum_by-cons}
-use Rattle.atomic_table.specs.Seated.{TableId}
-use Rattle.atomic_table.specs.Table.{Me}
-use Rattle.atomic_table.specs.declared.shared.Seat.{Seat}
-use Rattle.hm_shape.specs.declared.version.Version.{Version}
-use Rattle.hm_shape.specs.Versions.{version_at}
-use Rattle.hm_model.specs.declared.object.Start.{Start}
-use Rattle.hm_model.specs.declared.entry.Entry.{Entry}
-use Rattle.hm_model.specs.Store.{Numbers, PlainStore}
-use Rattle.hm_model.specs.History.{opening_of, starting_count, IsSizedStart}
-use Rattle.hm_moves.specs.declared.part.Known.{Known}
-use Rattle.hm_moves.specs.declared.part.Site.{Site}
-use Rattle.hm_moves.specs.declared.part.Part.{Part}
-use Rattle.hm_moves.specs.Fresh.{all_known, common_known, fresh_part, side_known}
-use Rattle.hm_cells.specs.declared.knowledge.Knowledge.{Knowledge}
-use Rattle.hm_cells.specs.Grips.{Gripped}
-use Rattle.hm_cells.specs.Facts.{IsAmong, IsSound, IsSure}
-use Rattle.hm_cells.specs.Shows.{IsSeated, caller_in, to_first, facts_of, knowledge}
-use Rattle.hm_cells.specs.Making.{first_roots, first_used, fresh_pass, newcomer}
-use Rattle.hm_moves.proofs.Fresh.{many, numbered, numbered_at}
+use Rattle.hm_cells.specs.Shows.{to_first}
 use Rattle.hm_cells.proofs.Found.{there_found}
 
 first_rooted : (start : Start) → All (λ r. IfSome r (IsAmong (common_known start ∷ []))) (first_roots start)

@@ -1,36 +1,8 @@
 -- What a move of a good machine tells the caller that makes it.
 use Rattle.std.proofs.Common.{◌≡◌, ℕ, Bool, true, false, List, [], ◌∷◌, ◌++◌, slice_index, slice_set, Option, Some, None, IfSome, Contains, if◌then◌else◌, eqb-true, refl, sym, ap, subst, ◌+◌}
-use Rattle.std.specs.List.{list_any}
-use Rattle.std.proofs.lemmas.List.Folds.{Any-from_list_any}
-use Rattle.std.proofs.lemmas.List.Elements.{Contains-push}
-use mathlib.Core.Option.{some}
-use lib.ListN.{get_elem?}
-use Rattle.hm_model.specs.declared.object.Name.{Name}
-use Rattle.hm_model.specs.declared.entry.Entry.{Entry}
-use Rattle.hm_model.specs.Store.{PlainStore, IsThere}
-use Rattle.hm_model.specs.Effect.{Stands}
-use Rattle.hm_model.specs.History.{store_of}
-use Rattle.hm_model.specs.Lawful.{UsageLaws}
-use Rattle.hm_moves.specs.declared.part.Known.{Known}
-use Rattle.hm_moves.specs.declared.part.Site.{Site}
-use Rattle.hm_moves.specs.declared.part.Part.{Part}
-use Rattle.hm_moves.specs.declared.part.View.{View}
-use Rattle.hm_moves.specs.declared.moving.Move.{Move}
-use Rattle.hm_moves.specs.Chain.{Index, IsPublished}
-use Rattle.hm_moves.specs.Acts.{word_of, publishes, finds, next_version}
-use Rattle.hm_moves.specs.After.{index_with, is_version, without, with_held, part_after, view_after}
-use Rattle.hm_moves.specs.Allowed.{Enabled, HasRoom, IsLawfulMove}
-use Rattle.hm_moves.specs.Good.{Begins, PartIsGood, Core, Good, Carries, applied}
-use Rattle.hm_moves.specs.Told.{Found}
-use Rattle.hm_moves.proofs.Histories.{others_only}
-use Rattle.hm_moves.proofs.Placed.{published_once}
-use Rattle.hm_moves.proofs.Held.{held_stays}
+use Rattle.hm_cells.proofs.Words.{each_some, from_some, list_any, Any-from_list_any, Contains-push, some, get_elem?, Name, Entry, PlainStore, IsThere, Stands, store_of, UsageLaws, Known, Site, Part, View, Move, Index, IsPublished, word_of, publishes, finds, next_version, index_with, is_version, without}
+use Rattle.hm_cells.proofs.Words.{with_held, part_after, view_after, Enabled, HasRoom, IsLawfulMove, Begins, PartIsGood, Core, Good, Carries, applied, Found, others_only, published_once, held_stays, set_here, good_step, enabled_lawful, Knowledge, Learnt, knowledge}
 use Rattle.hm_moves.proofs.Finding.{entry_by, found_now, fresh_now, next_now, index_more, index_here}
-use Rattle.hm_moves.proofs.Places.{set_here}
-use Rattle.hm_moves.proofs.Steps.{good_step}
-use Rattle.hm_moves.proofs.Enabling.{enabled_lawful}
-use Rattle.hm_cells.specs.declared.knowledge.Knowledge.{Knowledge}
-use Rattle.hm_cells.specs.Shows.{Learnt, knowledge}
 use Rattle.hm_cells.proofs.Sure.{sure_of}
 
 -- a list with a version has one of its number
@@ -66,8 +38,7 @@ module _ (index : Index) (l : List Known) (n : Option Known)
 
 map_some : {A : Type 0} (P Q : A → Type 0) (o : Option A) → ((a : A) → o ≡ Some a → P a → Q a) → IfSome o P
     → IfSome o Q
-map_some P Q None f h = tt
-map_some P Q (Some a) f h = f a refl h
+map_some P Q o f h = each_some Q o (λ a e. f a e (from_some P o a e h))
 
 module _ {U : Type 0} (lawful : U → PlainStore → Type 0) (allowed : U → PlainStore → Entry → Type 0)
     (laws : (u : U) → UsageLaws (lawful u) (allowed u)) where

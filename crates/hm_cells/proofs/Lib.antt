@@ -1,3 +1,5 @@
+-- words and lemmas from lower crates, for all of these
+pub mod Words
 -- what a caller is sure of, and what a step tells it
 pub mod Sure
 pub mod Learning

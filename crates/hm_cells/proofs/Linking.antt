@@ -1,43 +1,15 @@
 -- When a pass may exchange a link for its next version, and what that leaves.
 use Rattle.std.proofs.Common.{◌≡◌, ◌≤◌, ◌+◌, ◌^◌, ℕ, zero, suc, Bool, ne_eqb, List, [], ◌∷◌, ◌++◌, Option, Some, None, IfSome, Contains, if◌then◌else◌, refl, sym, ap, ◌∙◌, subst, arith, inl}
-use Rattle.std.specs.Prelude.{◌==◌}
-use Rattle.std.specs.Option.{option_to_list}
-use Rattle.std.proofs.lemmas.List.{length-map}
-use Rattle.atomic_table.specs.declared.shared.Seat.{Seat}
-use Rattle.hm_shape.specs.declared.shape.Shape.{Shape}
-use Rattle.hm_shape.specs.declared.version.Version.{Version}
-use Rattle.hm_shape.specs.Versions.{IsAt}
-use Rattle.hm_shape.specs.Words.{word_at, naming_word}
-use Rattle.hm_model.specs.declared.root.Root.{Root}
-use Rattle.hm_model.specs.declared.entry.Entry.{Entry}
-use Rattle.hm_model.specs.Store.{PlainStore}
-use Rattle.hm_model.specs.Sight.{MayEnter, name_of}
-use Rattle.hm_moves.specs.declared.part.Known.{Known}
+use Rattle.hm_cells.proofs.Words.{◌==◌, option_to_list, length-map, Seat, Shape, Version, IsAt, word_at, naming_word, Root, Entry, PlainStore, MayEnter, name_of, Known, Looks, Builds, LinkStore, IsFit, IsKnownField, IsKnownName, Turns, HasHand, HasRoom, done_seen, MayMake, becomes, publishes, next_version, count_of, part_after}
+use Rattle.hm_cells.proofs.Words.{IsLink, Knowledge, Want, Nothing, Fetch, Store, StoreIf, Gripped, Facts, Fits, Made, IsLookable, known_at, sight_of, IsWholeCopy, MayChange, MayStore, field_of, linked, move_by, stored, taken, turned, Exchanges, IsReady, IsSeated, Learns, facts_of, some_move, Takes, some_more}
 use Rattle.hm_moves.specs.declared.moving.Act.{Act}
-use Rattle.hm_moves.specs.declared.moving.Act.TheVariants.{Looks, Builds}
-use Rattle.hm_moves.specs.declared.moving.Build.TheVariants.{LinkStore}
-use Rattle.hm_moves.specs.Places.{IsFit}
-use Rattle.hm_moves.specs.Allowed.{IsKnownField, IsKnownName, Turns, HasHand, HasRoom, done_seen}
-use Rattle.hm_model.specs.Lawful.{MayMake}
-use Rattle.hm_moves.specs.Acts.{becomes, publishes, next_version}
-use Rattle.hm_moves.specs.After.{count_of, part_after}
-use Rattle.hm_moves.specs.Told.{IsLink}
-use Rattle.hm_cells.specs.declared.knowledge.Knowledge.{Knowledge}
-use Rattle.hm_cells.specs.declared.want.Want.{Want}
-use Rattle.hm_cells.specs.declared.want.Want.TheVariants.{Nothing, Fetch, Store, StoreIf}
 use Rattle.hm_cells.specs.declared.want.WantField.{WantField}
 use Rattle.hm_cells.specs.declared.want.WantField.TheVariants.{Number, Refer}
-use Rattle.hm_cells.specs.Grips.{Gripped}
-use Rattle.hm_cells.specs.Facts.{Facts, Fits, Made, IsLookable, known_at, sight_of}
-use Rattle.hm_cells.specs.Calls.{IsWholeCopy, MayChange, MayStore, field_of, linked, move_by, stored, taken, turned}
-use Rattle.hm_cells.specs.Shows.{Exchanges, IsReady, IsSeated, Learns, facts_of, some_move}
 use Rattle.hm_cells.proofs.Fields.{small_link}
 use Rattle.hm_cells.proofs.Moved.{moved}
-use Rattle.hm_cells.specs.Calls.{Takes}
 use Rattle.hm_cells.proofs.Ready.{known_look, ready}
 use Rattle.hm_cells.proofs.Storing.{next_is}
 use Rattle.hm_cells.proofs.Wanting.{HasLengths, refs_known, root_known}
-use Rattle.hm_moves.proofs.Held.{some_more}
 
 -- the act of an exchange with a want
 abbrev pub link_by : {U : Type 0} → Facts U → Version → Want → Act

@@ -1,33 +1,10 @@
 -- When a pass may load a word, and what its load leaves.
 use Rattle.std.proofs.Common.{◌≡◌, ◌≢◌, ◌⊎◌, ◌<◌, ◌≤◌, ◌+◌, ◌^◌, ◌++◌, ℕ, Option, Some, None, IfSome, Contains, refl, sym, ap, ◌∙◌, subst, arith}
-use Rattle.std.specs.Option.{option_to_list}
-use Rattle.atomic_table.specs.declared.shared.Seat.{Seat}
-use Rattle.hm_shape.specs.declared.shape.Shape.{Shape}
-use Rattle.hm_shape.specs.declared.version.Version.{Version}
-use Rattle.hm_shape.specs.Versions.{IsVersionOf}
-use Rattle.hm_shape.specs.Words.{word_at, naming_word}
-use Rattle.hm_model.specs.declared.entry.Entry.{Entry}
-use Rattle.hm_model.specs.Store.{PlainStore}
-use Rattle.hm_moves.specs.declared.part.Known.{Known}
-use Rattle.hm_moves.specs.declared.part.Site.{Site}
-use Rattle.hm_moves.specs.declared.moving.Look.{Look}
-use Rattle.hm_moves.specs.declared.moving.Act.TheVariants.{Looks, Builds}
-use Rattle.hm_moves.specs.declared.moving.Look.TheVariants.{LoadLink}
-use Rattle.hm_moves.specs.Places.{IsFit}
-use Rattle.hm_moves.specs.Allowed.{IsKnownName, Reads, HasHand, done_seen}
-use Rattle.hm_model.specs.Lawful.{MayMake}
-use Rattle.hm_moves.specs.After.{count_of, part_after}
-use Rattle.hm_moves.specs.Acts.{publishes, field_look}
-use Rattle.hm_cells.specs.declared.knowledge.Knowledge.{Knowledge}
-use Rattle.hm_cells.specs.Grips.{Gripped}
-use Rattle.hm_cells.specs.Facts.{Facts, Fits, Made, IsLookable, known_at}
-use Rattle.hm_cells.specs.Calls.{move_by, taken, version_in}
-use Rattle.hm_cells.specs.Shows.{IsReady, IsSeated, Learns, Loads, facts_of, some_move}
+use Rattle.hm_cells.proofs.Words.{option_to_list, Seat, Shape, Version, IsVersionOf, word_at, naming_word, Entry, PlainStore, Known, Site, Look, Looks, Builds, LoadLink, IsFit, IsKnownName, Reads, HasHand, done_seen, MayMake, count_of}
+use Rattle.hm_cells.proofs.Words.{part_after, publishes, field_look, Knowledge, Gripped, Facts, Fits, Made, IsLookable, known_at, move_by, taken, version_in, IsReady, IsSeated, Learns, Loads, facts_of, some_move, Takes, some_more}
 use Rattle.hm_cells.proofs.Fields.{take_field, hold_field, place_field, hand_field, hand_link, small_link, named_in}
 use Rattle.hm_cells.proofs.Moved.{moved}
-use Rattle.hm_cells.specs.Calls.{Takes}
 use Rattle.hm_cells.proofs.Ready.{known_look, look_fit, look_version, ready}
-use Rattle.hm_moves.proofs.Held.{some_more}
 
 module _ {U : Type 0} (lawful : U → PlainStore → Type 0) (allowed : U → PlainStore → Entry → Type 0)
     (seat : Seat (Unit {0}) (Knowledge U)) (grip : Gripped U) (shape : Shape) (number to used : ℕ)

@@ -1,28 +1,9 @@
 -- A pass whose seat took a move, as what its call leaves.
 use Rattle.std.proofs.Common.{◌≡◌, ◌⊎◌, ◌<◌, ◌+◌, ℕ, zero, suc, List, [], ◌∷◌, ◌++◌, length, get_or, map, slice_set, Option, Some, None, IfSome, Contains, All, is_some, refl, sym, ap, ◌∙◌, subst, arith, inl, inr, ⊎_elim, append-nil, length-append}
-use Rattle.std.specs.Prelude.{slice_get}
-use Rattle.std.specs.Option.{option_to_list}
-use Rattle.std.proofs.lemmas.List.Elements.{All-append, All-contains_itself}
-use Rattle.atomic_table.specs.declared.shared.Seat.{Seat}
-use Rattle.hm_shape.specs.declared.shape.Shape.{Shape}
-use Rattle.hm_shape.specs.declared.version.Version.{Version}
-use Rattle.hm_shape.specs.Versions.{version_at}
-use Rattle.hm_model.specs.declared.entry.Entry.{Entry}
-use Rattle.hm_model.specs.Store.{PlainStore}
-use Rattle.hm_moves.specs.declared.part.Known.{Known}
-use Rattle.hm_moves.specs.declared.part.Part.{Part}
-use Rattle.hm_moves.specs.declared.part.Site.{Site}
-use Rattle.hm_moves.proofs.Places.{set_here}
-use mathlib.Core.Option.{some, some-injective, some-ne-none}
-use lib.ListN.{get_elem?}
+use Rattle.hm_cells.proofs.Words.{slice_get, option_to_list, All-append, All-contains_itself, Seat, Shape, Version, version_at, Entry, PlainStore, Known, Part, Site, set_here, some, some-injective, some-ne-none, get_elem?, entry_of, publishes, listed}
+use Rattle.hm_cells.proofs.Words.{next_version, count_of, part_after, Knowledge, Gripped, Facts, IsAmong, IsSure, IsSound, find_version, names_at, sight_of, Takes, Tells, after, move_by, taken, IsSeated, Learnt, Learns, caller_in, facts_of}
 use Rattle.hm_moves.specs.declared.moving.Act.{Act}
-use Rattle.hm_moves.specs.Acts.{entry_of, publishes, listed, next_version}
-use Rattle.hm_moves.specs.After.{count_of, part_after}
-use Rattle.hm_cells.specs.declared.knowledge.Knowledge.{Knowledge}
-use Rattle.hm_cells.specs.Grips.{Gripped}
-use Rattle.hm_cells.specs.Facts.{Facts, IsAmong, IsSure, IsSound, find_version, names_at, sight_of}
-use Rattle.hm_cells.specs.Calls.{Takes, Tells, after, move_by, taken}
-use Rattle.hm_cells.specs.Shows.{IsSeated, Learnt, Learns, caller_in, facts_of, to_first}
+use Rattle.hm_cells.specs.Shows.{to_first}
 use Rattle.hm_cells.proofs.Found.{IsNamed, among, apart_after, named_stays, names_stay, there_found}
 use Rattle.hm_cells.proofs.Entered.{entered}
 

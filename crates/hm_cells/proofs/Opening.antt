@@ -1,25 +1,7 @@
 -- A fresh Table shows a good machine, and its callers are sure.
 use Rattle.std.proofs.Common.{◌≡◌, ◌<◌, ◌≤◌, ◌+◌, ℕ, zero, suc, List, [], ◌∷◌, ◌++◌, length, refl, sym, ap, ◌∙◌, subst, arith, ⊎_elim, length-append}
-use mathlib.Core.Option.{some, some-ne-none, some-injective}
-use lib.ListN.{get_elem?}
-use native.Mathlib.Decide.{ℕ_discrete}
-use mathlib.Core.Logic.{dite}
-use Rattle.atomic_table.specs.Table.{opening}
-use Rattle.hm_model.specs.declared.entry.Entry.{Entry}
-use Rattle.hm_model.specs.Store.{PlainStore}
-use Rattle.hm_model.specs.History.{store_of, opening_of, starting_count, IsSizedStart}
-use Rattle.hm_moves.specs.declared.part.Site.{Site}
-use Rattle.hm_moves.specs.declared.part.Part.{Part}
-use Rattle.hm_moves.specs.declared.part.View.{View}
-use Rattle.hm_moves.specs.Good.{Begins, Core, Good, Carries}
-use Rattle.hm_moves.specs.Fresh.{fresh_index, fresh_part, fresh_places, IsFreshCore}
-use Rattle.hm_moves.proofs.Fresh.{good_fresh}
-use Rattle.hm_moves.proofs.Places.{at_end, at_later, at_longer}
-use Rattle.hm_cells.specs.declared.knowledge.Knowledge.{Knowledge}
-use Rattle.hm_cells.specs.Facts.{IsSure}
-use Rattle.hm_cells.specs.Shows.{Shows, knowledge}
+use Rattle.hm_cells.proofs.Words.{some, some-ne-none, some-injective, get_elem?, ℕ_discrete, dite, opening, Entry, PlainStore, store_of, opening_of, starting_count, IsSizedStart, Site, Part, View, Begins, Core, Good, Carries, fresh_index, fresh_part, fresh_places, IsFreshCore, good_fresh, at_end, at_later, at_longer, Knowledge, IsSure, Shows, knowledge, first_view, newcomers}
 use Rattle.hm_moves.specs.FirstWords.{AreFirst}
-use Rattle.hm_cells.specs.Making.{first_view, newcomers}
 use Rattle.hm_cells.proofs.Sure.{sure_of}
 
 module _ {U : Type 0} (lawful : U → PlainStore → Type 0) (allowed : U → PlainStore → Entry

@@ -1,33 +1,14 @@
 -- When a pass may take a move, and what it knows of a version.
 use Rattle.std.proofs.Common.{◌≡◌, ℕ, not, List, Option, Some, None, IfSome, Contains, unwrap_or, refl, sym, ap, ◌∙◌, subst}
-use Rattle.std.proofs.lemmas.List.Elements.{Contains-append_cases}
-use Rattle.atomic_table.specs.declared.shared.Seat.{Seat}
-use Rattle.hm_shape.specs.declared.shape.Shape.{Shape}
-use Rattle.hm_shape.specs.declared.version.Version.{Version}
-use Rattle.hm_shape.specs.Versions.{IsVersionOf}
-use Rattle.hm_model.specs.declared.entry.Entry.{Entry}
-use Rattle.hm_model.specs.Store.{PlainStore}
-use Rattle.hm_moves.specs.declared.part.Known.{Known}
-use Rattle.hm_moves.specs.declared.part.Part.{Part}
+use Rattle.hm_cells.proofs.Words.{each_some, Contains-append_cases, Seat, Shape, Version, IsVersionOf, Entry, PlainStore, Known, Part, IsFit, IsKnownName, MayHold, MayLookInto, MayTake, done_seen, MayMake, Knowledge, Gripped, Facts, Fits, Made, IsSound, IsLookable, first_idle, is_kept, known_at, lookable, nothing_known, move_by, IsReady, IsSeated, facts_of}
 use Rattle.hm_moves.specs.declared.moving.Act.{Act}
-use Rattle.hm_moves.specs.Places.{IsFit}
-use Rattle.hm_moves.specs.Allowed.{IsKnownName, MayHold, MayLookInto, MayTake, done_seen}
-use Rattle.hm_model.specs.Lawful.{MayMake}
-use Rattle.hm_cells.specs.declared.knowledge.Knowledge.{Knowledge}
-use Rattle.hm_cells.specs.Grips.{Gripped}
-use Rattle.hm_cells.specs.Facts.{Facts, Fits, Made, IsSound, IsLookable, first_idle, is_kept, known_at, lookable, nothing_known}
-use Rattle.hm_cells.specs.Calls.{move_by}
-use Rattle.hm_cells.specs.Shows.{IsReady, IsSeated, facts_of}
 use Rattle.hm_cells.proofs.Found.{among, find_passes, found_there}
 
 -- what is let go of was held
 pub idle_held : (roots : List (Option Version)) (hand : List Version) (held : List Known)
     → IfSome (first_idle roots hand held) (Contains held)
-idle_held roots hand held = go (first_idle roots hand held) refl
-  where
-    go : (o : Option Known) → first_idle roots hand held ≡ o → IfSome o (Contains held)
-    go None e = tt
-    go (Some k) e = (find_passes (λ (m : Known). not (is_kept roots hand m)) held k e).0
+idle_held roots hand held = each_some (Contains held) (first_idle roots hand held)
+    (λ k e. (find_passes (λ (m : Known). not (is_kept roots hand m)) held k e).0)
 
 module _ {U : Type 0} where
   -- what is known of a version that may be looked into

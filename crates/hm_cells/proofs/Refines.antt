@@ -1,35 +1,13 @@
 -- A call is one step of the machine.
 use Rattle.std.proofs.Common.{◌≡◌, ◌+◌, ◌≢◌, ℕ, zero, suc, ◌<◌, List, [], ◌∷◌, ◌++◌, append-nil, map, slice_index, slice_set, Option, if◌then◌else◌, refl, sym, ap, ◌∙◌, subst, ⊎_elim}
-use Rattle.std.specs.Prelude.{◌==◌}
-use Rattle.std.proofs.lemmas.List.{map-set, map-append, set-get_or}
-use mathlib.Core.Option.{some, some-injective}
-use lib.ListN.{get_elem?}
-use Rattle.atomic_table.specs.Table.{Act, State, Allows, Splits, Joins, keeps, stepped, Valid, carried_after}
+use Rattle.hm_cells.proofs.Words.{◌==◌, map-set, map-append, set-get_or, some, some-injective, get_elem?, State, Allows, Splits, Joins, keeps, stepped, Valid, carried_after, Entry, PlainStore, UsageLaws, Known, Site, Part, View, Move, word_of, becomes, entry_of, listed, finds, view, view_after, view_letting, letting, Enabled, Begins, Core, Good, Carries, applied}
+use Rattle.hm_cells.proofs.Words.{split, joined, joined_view, longer, spent_view, Depicts, released, begins_more, left_begins, at_set, set_else, set_here, good_step, enabled_lawful, Knowledge, Shows, Learnt, Learns, Looked, LookTells, IsReady, Loads, Stores, Exchanges, knowledge, looking, noted, met, spent, noting, first_letting, front, back, Heap}
+use Rattle.atomic_table.specs.Table.{Act}
 use Rattle.atomic_table.proofs.Lists.{at_map, at_snoc}
-use Rattle.hm_model.specs.declared.entry.Entry.{Entry}
-use Rattle.hm_model.specs.Store.{PlainStore}
-use Rattle.hm_model.specs.Lawful.{UsageLaws}
-use Rattle.hm_moves.specs.declared.part.Known.{Known}
-use Rattle.hm_moves.specs.declared.part.Site.{Site}
-use Rattle.hm_moves.specs.declared.part.Part.{Part}
-use Rattle.hm_moves.specs.declared.part.View.{View}
-use Rattle.hm_moves.specs.declared.moving.Move.{Move}
-use Rattle.hm_moves.specs.Acts.{word_of, becomes, entry_of, listed, finds}
-use Rattle.hm_moves.specs.After.{view, view_after, view_letting, letting}
-use Rattle.hm_moves.specs.Allowed.{Enabled}
-use Rattle.hm_moves.specs.Good.{Begins, Core, Good, Carries, applied, split, joined, joined_view, longer, spent_view, Depicts, released}
-use Rattle.hm_moves.proofs.Histories.{begins_more, left_begins}
-use Rattle.hm_moves.proofs.Places.{at_set, set_else, set_here}
-use Rattle.hm_moves.proofs.Steps.{good_step}
 use Rattle.hm_moves.proofs.Seats.{good_split, good_join}
-use Rattle.hm_moves.proofs.Enabling.{enabled_lawful}
-use Rattle.hm_cells.specs.declared.knowledge.Knowledge.{Knowledge}
-use Rattle.hm_cells.specs.Shows.{Shows, Learnt, Learns, Looked, LookTells, IsReady, Loads, Stores, Exchanges, knowledge, looking, noted, met, spent, noting, first_letting}
-use Rattle.hm_cells.specs.Making.{front, back}
 use Rattle.hm_cells.proofs.Learning.{learnt_of}
 use Rattle.hm_cells.proofs.Sure.{sure_letting}
 use Rattle.hm_moves.proofs.Letting.{good_released}
-use Rattle.hm_moves.specs.Places.{Heap}
 
 same_place : {U : Type 0} (ps : List (Part U)) (n : ℕ) (p q : Part U) → get_elem? ps n ≡ some p
     → get_elem? ps n ≡ some q → p ≡ q

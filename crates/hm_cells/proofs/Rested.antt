@@ -1,26 +1,10 @@
 -- A pass that lets go of its first idle version, and moves no word.
 use Rattle.std.proofs.Common.{◌≡◌, ℕ, Bool, true, false, nat_lt, length, if◌then◌else◌, List, [], ◌∷◌, get_or, Option, Some, None, IfSome, Contains, is_some, refl, sym, ap, ◌∙◌, subst, inl, inr, ◌+◌, arith}
-use Rattle.std.proofs.lemmas.List.Elements.{All-contains_itself}
-use Rattle.atomic_table.specs.declared.shared.Seat.{Seat}
-use Rattle.hm_shape.specs.declared.shape.Shape.{Shape}
-use Rattle.hm_shape.specs.declared.version.Version.{Version}
-use Rattle.hm_model.specs.declared.entry.Entry.{Entry}
-use Rattle.hm_model.specs.Store.{PlainStore}
-use Rattle.hm_moves.specs.declared.part.Known.{Known}
-use Rattle.hm_moves.specs.declared.part.Part.{Part}
-use Rattle.hm_moves.specs.After.{without, letting}
-use Rattle.hm_moves.specs.Good.{Begins, longer}
-use Rattle.hm_cells.specs.declared.knowledge.Knowledge.{Knowledge}
-use Rattle.hm_cells.specs.Grips.{Gripped}
-use Rattle.hm_cells.specs.Facts.{Facts, IsAmong, IsSound, IsSure, find_version, first_idle, names_at, sight_of}
-use Rattle.hm_cells.specs.Calls.{Meets, rested}
-use Rattle.hm_moves.proofs.Places.{at_longer, set_here}
-use Rattle.atomic_table.specs.Table.{Me}
-use Rattle.hm_cells.specs.Shows.{first_letting, met, noting, IsSeated, Looked, LookTells, caller_in, facts_of, to_first}
+use Rattle.hm_cells.proofs.Words.{All-contains_itself, Seat, Shape, Version, Entry, PlainStore, Known, Part, without, letting, Begins, longer, Knowledge, Gripped, Facts, IsAmong, IsSound, IsSure, find_version, first_idle, names_at}
+use Rattle.hm_cells.proofs.Words.{sight_of, Meets, rested, at_longer, set_here, Me, first_letting, met, noting, IsSeated, Looked, LookTells, caller_in, facts_of, some, some-injective, some-ne-none, get_elem?}
+use Rattle.hm_cells.specs.Shows.{to_first}
 use Rattle.hm_cells.proofs.Moved.{first_in}
 use Rattle.hm_cells.proofs.Sure.{sure_let}
-use mathlib.Core.Option.{some, some-injective, some-ne-none}
-use lib.ListN.{get_elem?}
 use Rattle.hm_cells.proofs.Found.{IsNamed, among, apart_without, found_without, idle_other, names_stay}
 use Rattle.hm_cells.proofs.Entered.{goes_on}
 

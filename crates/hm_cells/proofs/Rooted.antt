@@ -1,14 +1,6 @@
 -- Root places and hands that change.
 use Rattle.std.proofs.Common.{◌≡◌, ◌<◌, ℕ, zero, suc, Bool, true, false, List, [], ◌∷◌, length, get_or, map, set, Option, None, Contains, All, if◌then◌else◌, refl, ap, ◌∙◌, arith, get_or-set_same, get_or-set_other}
-use Rattle.std.specs.Prelude.{◌==◌}
-use Rattle.std.proofs.lemmas.List.{map-set, length-map}
-use Rattle.std.proofs.lemmas.List.Elements.{All-contains, All-contains_itself}
-use Rattle.hm_shape.specs.declared.version.Version.{Version}
-use Rattle.hm_model.specs.declared.object.Name.{Name}
-use Rattle.hm_model.specs.declared.root.Root.{Root}
-use Rattle.hm_model.specs.Sight.{SetsRoot, name_at}
-use Rattle.hm_moves.specs.declared.part.Known.{Known}
-use Rattle.hm_cells.specs.Facts.{Facts, place_name, sight_of, with_root, without_first}
+use Rattle.hm_cells.proofs.Words.{◌==◌, map-set, length-map, All-contains, All-contains_itself, Version, Name, Root, SetsRoot, name_at, Known, Facts, place_name, sight_of, with_root, without_first}
 
 -- the name at a root place is that of the version there
 pub name_place : (held : List Known) (roots : List (Option Version)) (i : ℕ)

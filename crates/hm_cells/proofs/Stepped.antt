@@ -1,22 +1,8 @@
 -- What a move leaves of what a pass knew, for the calls that take several.
 use Rattle.std.proofs.Common.{◌≡◌, ◌≢◌, ◌⊎◌, ◌<◌, ◌≤◌, ◌+◌, ◌&&◌, ℕ, zero, suc, Bool, true, false, true≢false, List, [], ◌∷◌, ◌++◌, length, get_or, set, Option, Some, None, IfSome, Contains, unwrap_or, if◌then◌else◌, eqb-true, refl, sym, ap, ◌∙◌, subst, arith, inl, inr, ⊎_elim, get_or-set_same, get_or-set_other}
-use Rattle.std.specs.Prelude.{◌==◌}
-use Rattle.std.proofs.lemmas.List.Elements.{All-contains, Contains-append_right}
-use Rattle.hm_shape.specs.declared.version.Version.{Version}
-use Rattle.hm_shape.specs.Words.{naming_word}
-use Rattle.hm_model.specs.declared.entry.Entry.{Entry}
-use Rattle.hm_model.specs.Store.{PlainStore}
-use Rattle.hm_moves.specs.declared.part.Known.{Known}
+use Rattle.hm_cells.proofs.Words.{each_some, from_some, common_steps, nat_tests, ◌==◌, All-contains, Contains-append_right, Version, naming_word, Entry, PlainStore, Known, Looks, Builds, LoadStamp, LoadReference, LoadNumber, LoadLink, StoreOwn, Publish, LinkStore, IsFit, publishes, listed, field_look}
+use Rattle.hm_cells.proofs.Words.{is_naming, unless_named, unnamed_from, unnamed, written_with, IsWritten, done_seen, Facts, IsHeldAt, IsLookable, IsSound, find_version, first_idle, known_at, lookable, nothing_known, Takes, taken}
 use Rattle.hm_moves.specs.declared.moving.Act.{Act}
-use Rattle.hm_moves.specs.declared.moving.Act.TheVariants.{Looks, Builds}
-use Rattle.hm_moves.specs.declared.moving.Look.TheVariants.{LoadStamp, LoadReference, LoadNumber, LoadLink}
-use Rattle.hm_moves.specs.declared.moving.Build.TheVariants.{StoreOwn, Publish, LinkStore}
-use Rattle.hm_moves.specs.Places.{IsFit}
-use Rattle.hm_moves.specs.Acts.{publishes, listed, field_look}
-use Rattle.hm_moves.specs.After.{is_naming, unless_named, unnamed_from, unnamed, written_with}
-use Rattle.hm_moves.specs.Allowed.{IsWritten, done_seen}
-use Rattle.hm_cells.specs.Facts.{Facts, IsHeldAt, IsLookable, IsSound, find_version, first_idle, known_at, lookable, nothing_known}
-use Rattle.hm_cells.specs.Calls.{Takes, taken}
 use Rattle.hm_cells.proofs.Fields.{field_cases}
 use Rattle.hm_cells.proofs.Few.{few_after, not_both}
 use Rattle.hm_cells.proofs.Found.{IsNamed, among, at_place, found_first, idle_other, named_stays, there_found, there_is}
@@ -39,31 +25,18 @@ number_look k i low = field_cases (λ l. l ≡ LoadNumber k i) k (6 + i) (omega 
     (λ j small e. let same : j ≡ i = omega arith in ap (LoadNumber k) same)
 
 -- words of a draft that stay written where a version is let go
-unless_still : (k : Known) (i w : ℕ) → (is_naming i && (w == naming_word (Some k.version))) ≡ false
-    → unless_named k i (Some w) ≡ Some w
-unless_still k i w e = ap (λ (t : Bool). if t then None else Some w) e
-
 unnamed_still_from : (k : Known) (i : ℕ) (l : List (Option ℕ)) (j w : ℕ) → get_or l j None ≡ Some w
     → (is_naming (j + i) && (w == naming_word (Some k.version))) ≡ false
     → get_or (unnamed_from k i l) j None ≡ Some w
 unnamed_still_from k i [] j w e h = e
-unnamed_still_from k i (x ∷ xs) zero w e h =
-    let at : zero + i ≡ i = omega arith in
-    ap (unless_named k i) e
-    ∙ unless_still k i w (ap (λ (n : ℕ). is_naming n && (w == naming_word (Some k.version))) (sym at) ∙ h)
-unnamed_still_from k i (x ∷ xs) (suc j) w e h =
-    let at : j + (i + 1) ≡ suc j + i = omega arith in
-    unnamed_still_from k (i + 1) xs j w e
-    (ap (λ (n : ℕ). is_naming n && (w == naming_word (Some k.version))) at ∙ h)
+unnamed_still_from k i (x ∷ xs) zero w e h = grind (arith, common_steps, nat_tests)
+unnamed_still_from k i (x ∷ xs) (suc j) w e h = grind (arith, common_steps, unnamed_still_from k (i + 1) xs j w)
 
 unnamed_still : (o : Option Known) (l : List (Option ℕ)) (j w : ℕ) → IsWritten l j w
     → IfSome o (λ k. (is_naming j && (w == naming_word (Some k.version))) ≡ false)
     → IsWritten (unnamed o l) j w
 unnamed_still None l j w e h = e
-unnamed_still (Some k) l j w e h =
-    let at : j ≡ j + 0 = omega arith in
-    unnamed_still_from k 0 l j w e
-    (ap (λ (n : ℕ). is_naming n && (w == naming_word (Some k.version))) (sym at) ∙ h)
+unnamed_still (Some k) l j w e h = grind (arith, unnamed_still_from k 0 l j w e)
 
 module _ {U : Type 0} (lawful : U → PlainStore → Type 0) (allowed : U → PlainStore → Entry → Type 0) where
   -- a root place or the hand names a version
@@ -184,38 +157,16 @@ module _ {U : Type 0} (lawful : U → PlainStore → Type 0) (allowed : U → Pl
 
     safe_test : (j w : ℕ) → IsSafe j w → IfSome idle (λ k. (is_naming j && (w == naming_word
         (Some k.version))) ≡ false)
-    safe_test j w safe = ⊎_elim
-        (λ (e : is_naming j ≡ false). quiet idle e)
+    safe_test j w safe =
+        each_some (λ k. (is_naming j && (w == naming_word (Some k.version))) ≡ false) idle (λ k e. ⊎_elim
+        (λ (n : is_naming j ≡ false). grind (arith, common_steps))
         (λ (r : (w ≡ 0) ⊎ ((v : Version) × (w ≡ naming_word (Some v)) × IsKept s v)). ⊎_elim
-        (λ (e : w ≡ 0). nought idle e)
+        (λ (z : w ≡ 0). grind (arith, common_steps, nat_tests))
         (λ (c : (v : Version) × (w ≡ naming_word (Some v)) × IsKept s v).
-        named idle c.0 c.1 (idle_other s.roots s.hand s.part.hands.held c.0 (kept_named s c.0 c.2))) r)
-        safe
-      where
-        both_false : (a b : Bool) → b ≡ false → (a && b) ≡ false
-        both_false true b e = e
-        both_false false b e = refl
-
-        other : (m n : ℕ) → m ≢ n → (m == n) ≡ false
-        other m n ne = Rattle.std.proofs.Common.ne_eqb m n ne
-
-        quiet : (o : Option Known) → is_naming j ≡ false
-            → IfSome o (λ k. (is_naming j && (w == naming_word (Some k.version))) ≡ false)
-        quiet None e = tt
-        quiet (Some k) e = ap (λ (b : Bool). b && (w == naming_word (Some k.version))) e
-
-        nought : (o : Option Known) → w ≡ 0
-            → IfSome o (λ k. (is_naming j && (w == naming_word (Some k.version))) ≡ false)
-        nought None e = tt
-        nought (Some k) e = both_false (is_naming j) (w == naming_word (Some k.version))
-            (other w (naming_word (Some k.version)) (λ z. omega arith))
-
-        named : (o : Option Known) (v : Version) → w ≡ naming_word (Some v)
-            → IfSome o (λ k. k.version.0 ≢ v.0)
-            → IfSome o (λ k. (is_naming j && (w == naming_word (Some k.version))) ≡ false)
-        named None v e h = tt
-        named (Some k) v e h = both_false (is_naming j) (w == naming_word (Some k.version))
-            (other w (naming_word (Some k.version)) (λ z. h (omega arith)))
+        let ne = from_some (λ (m : Known). m.version.0 ≢ c.0.0) idle k e
+        (idle_other s.roots s.hand s.part.hands.held c.0 (kept_named s c.0 c.2)) in
+        grind (arith, common_steps, nat_tests)) r)
+        safe)
 
     written_is : t.part.draft.written ≡ unnamed idle (written_with s.part.draft.written act (publishes act x))
     written_is = ap (λ (f : Facts U). f.part.draft.written) took.is

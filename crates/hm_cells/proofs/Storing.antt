@@ -1,35 +1,11 @@
 -- When a pass may store a word of its next version, and what that leaves.
 use Rattle.std.proofs.Common.{◌≡◌, ◌<◌, ◌≤◌, ◌+◌, ℕ, zero, suc, true, [], ◌∷◌, ◌++◌, get_or, Option, Some, None, IsSome, IfSome, Contains, unwrap_or, refl, sym, ap, ◌∙◌, subst, arith, inl, ⊎_elim, append-nil}
-use Rattle.std.specs.Prelude.{slice_index}
-use Rattle.std.specs.Option.{option_map, option_to_list}
-use Rattle.atomic_table.specs.declared.shared.Seat.{Seat}
-use Rattle.hm_shape.specs.declared.shape.Shape.{Shape}
-use Rattle.hm_shape.specs.declared.version.Version.{Version}
-use Rattle.hm_shape.specs.Versions.{IsAt, version_at}
-use Rattle.hm_shape.specs.Words.{word_at, naming_word}
-use Rattle.hm_model.specs.declared.object.Name.{Name}
-use Rattle.hm_model.specs.declared.entry.Entry.{Entry}
+use Rattle.hm_cells.proofs.Words.{slice_index, option_map, option_to_list, Seat, Shape, Version, IsAt, version_at, word_at, naming_word, Name, Entry, PlainStore, Known, Site, Part, Looks, Builds, StoreOwn, Publish, reference_at, IsFirst, IsKnownName, IsWritten, Names, Spells, HasHand, HasRoom, next_name, MayMake}
+use Rattle.hm_cells.proofs.Words.{is_naming, next_version, Knowledge, Gripped, Facts, Fits, Made, IsSound, find_version, place_name, IsWhole, MayPublish, drafted, drafted_name, drafted_numbers, drafted_refs, drafted_word, move_by, taken, version_in, IsReady, IsSeated, Learns, Stores, facts_of, Takes}
 use Rattle.hm_model.specs.declared.entry.Entry.TheVariants.{Create}
-use Rattle.hm_model.specs.Store.{PlainStore}
-use Rattle.hm_moves.specs.declared.part.Known.{Known}
-use Rattle.hm_moves.specs.declared.part.Site.{Site}
-use Rattle.hm_moves.specs.declared.part.Part.{Part}
-use Rattle.hm_moves.specs.declared.moving.Act.TheVariants.{Looks, Builds}
-use Rattle.hm_moves.specs.declared.moving.Build.TheVariants.{StoreOwn, Publish}
-use Rattle.hm_moves.specs.Chain.{reference_at}
-use Rattle.hm_moves.specs.Allowed.{IsFirst, IsKnownName, IsWritten, Names, Spells, HasHand, HasRoom, next_name}
-use Rattle.hm_model.specs.Lawful.{MayMake}
-use Rattle.hm_moves.specs.After.{is_naming}
-use Rattle.hm_moves.specs.Acts.{next_version}
-use Rattle.hm_cells.specs.declared.knowledge.Knowledge.{Knowledge}
-use Rattle.hm_cells.specs.Grips.{Gripped}
-use Rattle.hm_cells.specs.Facts.{Facts, Fits, Made, IsSound, find_version, place_name}
-use Rattle.hm_cells.specs.Calls.{IsWhole, MayPublish, drafted, drafted_name, drafted_numbers, drafted_refs, drafted_word, move_by, taken, version_in}
-use Rattle.hm_cells.specs.Shows.{IsReady, IsSeated, Learns, Stores, facts_of}
 use Rattle.hm_cells.proofs.Fields.{naming_in}
 use Rattle.hm_cells.proofs.Found.{there_is}
 use Rattle.hm_cells.proofs.Moved.{moved}
-use Rattle.hm_cells.specs.Calls.{Takes}
 use Rattle.hm_cells.proofs.Ready.{ready}
 use Rattle.hm_cells.proofs.Wanting.{place_known}
 

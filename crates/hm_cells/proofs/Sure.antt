@@ -1,21 +1,7 @@
 -- In a good machine each caller is sure of itself, also after it lets go of a version.
 use Rattle.std.proofs.Common.{◌≡◌, ℕ, List, Option, Contains, inl, inr, ⊎_elim, sym, subst, arith, ◌∙◌}
-use Rattle.hm_model.specs.declared.entry.Entry.{Entry}
-use Rattle.hm_model.specs.Store.{PlainStore}
-use Rattle.hm_moves.specs.declared.part.Known.{Known}
-use Rattle.hm_moves.specs.declared.part.Site.{Site}
-use Rattle.hm_moves.specs.declared.part.Part.{Part}
-use Rattle.hm_moves.specs.declared.part.View.{View}
-use Rattle.hm_moves.specs.Chain.{IsPublished}
-use Rattle.hm_moves.specs.Places.{row_of}
-use Rattle.hm_moves.specs.After.{letting, without}
-use Rattle.hm_moves.specs.Allowed.{MayLookInto}
-use Rattle.hm_moves.specs.Good.{Core, Good, Carries}
-use Rattle.hm_moves.proofs.Held.{names_without, unnamed_was, unnamed_wide, without_held}
+use Rattle.hm_cells.proofs.Words.{Entry, PlainStore, Known, Site, Part, View, IsPublished, row_of, letting, without, MayLookInto, Core, Good, Carries, names_without, unnamed_was, unnamed_wide, without_held, lawful_before, published_once, rank_small, IsSure}
 use Rattle.hm_moves.proofs.Heaps.{look_published}
-use Rattle.hm_moves.proofs.Histories.{lawful_before}
-use Rattle.hm_moves.proofs.Placed.{published_once, rank_small}
-use Rattle.hm_cells.specs.Facts.{IsSure}
 
 module _ {U : Type 0} (lawful : U → PlainStore → Type 0) (allowed : U → PlainStore → Entry → Type 0) where
   own_sure : (c : Core U) (id place : ℕ) (v : View U) (p : Part U) → Good lawful allowed p.site c

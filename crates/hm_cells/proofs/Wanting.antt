@@ -1,21 +1,6 @@
 -- An entry that a load of a link is to make may be made.
 use Rattle.std.proofs.Common.{◌≡◌, ◌<◌, ℕ, zero, suc, List, [], ◌∷◌, length, get_or, map, Option, Some, None, IfSome, refl, ◌∙◌, arith, inl}
-use Rattle.std.specs.Option.{option_map}
-use Rattle.std.proofs.lemmas.List.{length-map}
-use Rattle.hm_shape.specs.declared.version.Version.{Version}
-use Rattle.hm_model.specs.declared.object.Name.{Name}
-use Rattle.hm_model.specs.declared.root.Root.{Root}
-use Rattle.hm_model.specs.declared.entry.Entry.{Entry}
-use Rattle.hm_model.specs.Store.{PlainStore}
-use Rattle.hm_model.specs.Lawful.{UsageLaws, MayMake}
-use Rattle.hm_model.specs.Sight.{name_at, name_of, names_of}
-use Rattle.hm_moves.specs.declared.part.Known.{Known}
-use Rattle.hm_moves.specs.declared.part.Part.{Part}
-use Rattle.hm_moves.specs.Allowed.{AreKnown, IsKnownName, Reads}
-use Rattle.hm_cells.specs.declared.want.Want.{Want}
-use Rattle.hm_cells.specs.declared.want.Want.TheVariants.{Nothing, Fetch, Store, StoreIf}
-use Rattle.hm_cells.specs.Facts.{Facts, find_version, place_name, sight_of}
-use Rattle.hm_cells.specs.Calls.{MayWant, wanted}
+use Rattle.hm_cells.proofs.Words.{option_map, length-map, Version, Name, Root, Entry, PlainStore, UsageLaws, MayMake, name_at, name_of, names_of, Known, Part, AreKnown, IsKnownName, Reads, Want, Nothing, Fetch, Store, StoreIf, Facts, find_version, place_name, sight_of, MayWant, wanted}
 use Rattle.hm_cells.proofs.Found.{found_there}
 
 -- the arrays that a want is given have their lengths

@@ -1,14 +1,6 @@
 -- Chains after a store into another word, after a create, and after a version is hung on the last one.
 use Rattle.std.proofs.Common.{◌≡◌, ◌≢◌, ◌+◌, ℕ, zero, suc, List, Some, None, refl, sym, ap, ◌∙◌, subst, arith, ⊎_elim}
-use native.Mathlib.Decide.{ℕ_discrete}
-use mathlib.Core.Logic.{dite}
-use Rattle.hm_shape.specs.declared.shape.Shape.{Shape}
-use Rattle.hm_shape.specs.Words.{naming_word}
-use Rattle.hm_model.specs.declared.object.Name.{Name}
-use Rattle.hm_model.specs.Store.{PlainStore, contents_of, IsThere}
-use Rattle.hm_model.proofs.EffectFacts.{there_contents}
-use Rattle.hm_moves.specs.declared.part.Known.{Known}
-use Rattle.hm_moves.specs.Chain.{Index, IsPublished, with_one, link_of, IsLinked, AreChained}
+use Rattle.hm_moves.proofs.Words.{ℕ_discrete, dite, Shape, naming_word, Name, PlainStore, contents_of, IsThere, there_contents, Known, Index, IsPublished, with_one, link_of, IsLinked, AreChained}
 use Rattle.hm_moves.proofs.Placed.{published_here, published_either, published_once, follows_more}
 
 -- the links of published versions are the same
@@ -66,24 +58,23 @@ module _ (s : Shape) (words words' : List ℕ) (index : Index) (store store' : P
           own_link
           (λ t. subst (IsLinked (with_one index k) store' m) (sym (same m t.1))
           (linked_more index store store' k m (link_of s words m) none (stays m) (h.link m t.1)));
-      top = λ m n p q e z. ⊎_elim
-          (λ (t : k ≡ m). ⊎_elim
-          (λ (r : k ≡ n). let one : n.rank ≡ m.rank = ap (λ (x : Known). x.rank) (sym r ∙ t) in omega arith)
-          (λ (r : Old n). absurd (another n r.1 (e ∙ ap (λ (x : Known). x.name) (sym t))))
-          (published_either index k n q))
-          (λ (t : Old m). ⊎_elim
-          (λ (r : k ≡ n). absurd (another m t.1 (sym e ∙ ap (λ (x : Known). x.name) (sym r))))
-          (λ (r : Old n). h.top m n t.1 r.1 e (sym (same m t.1) ∙ z)) (published_either index k n q))
-          (published_either index k m p);
-      apart = λ m n p q e z. ⊎_elim
-          (λ (t : k ≡ m). ⊎_elim
-          (λ (r : k ≡ n). sym r ∙ t)
-          (λ (r : Old n). absurd (another n r.1 (e ∙ ap (λ (x : Known). x.name) (sym t))))
-          (published_either index k n q))
-          (λ (t : Old m). ⊎_elim
-          (λ (r : k ≡ n). absurd (another m t.1 (sym e ∙ ap (λ (x : Known). x.name) (sym r))))
-          (λ (r : Old n). h.apart m n t.1 r.1 e z) (published_either index k n q))
-          (published_either index k m p);
+      top = λ m n p q e z. grind (
+        arith,
+        published_either index k m p,
+        published_either index k n q,
+        another m,
+        another n,
+        h.top m n,
+        same m,
+      );
+      apart = λ m n p q e z. grind (
+        arith,
+        published_either index k m p,
+        published_either index k n q,
+        another m,
+        another n,
+        h.apart m n,
+      );
     }
 
   -- a version hung on the last one

@@ -1,30 +1,10 @@
 -- What is enabled by what a caller has seen and knows is lawful by the whole history.
 use Rattle.std.proofs.Common.{ℕ, get_or, List, Option, Some, None, IfSome, sym, subst}
-use Rattle.hm_model.specs.declared.object.Name.{Name}
-use Rattle.hm_model.specs.declared.object.Contents.{Contents}
-use Rattle.hm_model.specs.declared.object.Field.{Field}
-use Rattle.hm_model.specs.declared.object.Field.TheVariants.{Number, Refer}
-use Rattle.hm_model.specs.declared.entry.Tried.TheVariants.{Stored, Changed}
-use Rattle.hm_model.specs.declared.entry.Entry.{Entry}
-use Rattle.hm_model.specs.declared.entry.Entry.TheVariants.{Create, Fetch, Store, StoreIf}
-use Rattle.hm_model.specs.Store.{PlainStore, IsThere}
-use Rattle.hm_model.specs.Effect.{Stands}
-use Rattle.hm_model.specs.History.{store_of}
-use Rattle.hm_moves.specs.declared.part.Known.{Known}
-use Rattle.hm_moves.specs.declared.part.Part.{Part}
-use Rattle.hm_moves.specs.declared.part.View.{View}
-use Rattle.hm_moves.specs.declared.part.Site.{Site}
-use Rattle.hm_moves.specs.declared.moving.Act.{Act}
-use Rattle.hm_moves.specs.declared.moving.Act.TheVariants.{Looks, Builds}
-use Rattle.hm_moves.specs.declared.moving.Build.TheVariants.{StoreOwn, Publish, LinkStore}
-use Rattle.hm_moves.specs.declared.moving.Move.{Move}
-use Rattle.hm_moves.specs.Allowed.{AreKnown, IsKnownField, IsGiven, IsKnownName, Reads, Turns, IsFirst, MayTake, Enabled, IsLawfulMove, TurnsBy}
-use Rattle.hm_model.specs.Lawful.{MayMake}
-use Rattle.hm_moves.specs.Good.{Core, Good, Carries}
+use Rattle.hm_moves.proofs.Words.{Name, Contents, Field, Number, Refer, Stored, Changed, Entry, Create, Fetch, Store, StoreIf, PlainStore, IsThere, Stands, store_of, Known, Part, View, Site, Act, Looks, Builds, StoreOwn, Publish}
+use Rattle.hm_moves.proofs.Words.{LinkStore, Move, AreKnown, IsKnownField, IsGiven, IsKnownName, Reads, Turns, IsFirst, MayTake, Enabled, IsLawfulMove, TurnsBy, MayMake, Core, Good, Carries, looked_at, want_of}
 use Rattle.hm_moves.proofs.Histories.{come_now}
 use Rattle.hm_moves.proofs.Heaps.{known_there}
 use Rattle.hm_moves.proofs.Held.{some_more}
-use Rattle.hm_moves.specs.Acts.{looked_at, want_of}
 
 -- what is known by one reading is known by a wider one
 module _ (known wider : Name → Type 0) (f : (n : Name) → known n → wider n) where

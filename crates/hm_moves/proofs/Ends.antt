@@ -1,11 +1,6 @@
 -- Chains end, since ranks rise along links.
 use Rattle.std.proofs.Common.{◌≡◌, ◌≤◌, ◌<◌, ◌+◌, ℕ, zero, suc, Some, refl, sym, ap, ◌∙◌, subst, arith}
-use Rattle.hm_shape.specs.declared.shape.Shape.{Shape}
-use Rattle.hm_shape.specs.Words.{naming_word}
-use Rattle.hm_moves.specs.declared.part.Known.{Known}
-use Rattle.hm_moves.specs.Places.{Heap, row_count, total, rank_limit}
-use Rattle.hm_moves.specs.Chain.{IsPublished, link_of}
-use Rattle.hm_moves.specs.Safe.{IsForward, KeepsChains, KeepsRanks}
+use Rattle.hm_moves.proofs.Words.{Shape, naming_word, Known, Heap, row_count, total, rank_limit, IsPublished, link_of, IsForward, KeepsChains, KeepsRanks}
 use Rattle.hm_moves.specs.Ends.{ChainsEnd, EndsAfter, Links}
 use Rattle.hm_moves.proofs.Placed.{made_small}
 

@@ -1,20 +1,7 @@
 -- Entries that stand in the present store, and what they change there.
 use Rattle.std.proofs.Common.{◌≡◌, ◌≢◌, ◌+◌, List, get_or, IfSome, Option, Some, None, refl, sym, ap, ◌∙◌, subst}
+use Rattle.hm_moves.proofs.Words.{Name, Contents, Field, Number, Refer, Stored, Changed, Entry, Create, Fetch, Store, StoreIf, PlainStore, contents_of, IsThere, AreThere, with_changed, caller_of, Stands, FieldStands, effect_of, with_field, with_all, contents_of-changed, contents_of-changed_other, there_contents, field_rises, Known, Part, AreKnown, IsKnownField, Reads, Turns}
 use Rattle.std.specs.Option.{option_map}
-use Rattle.hm_model.specs.declared.object.Name.{Name}
-use Rattle.hm_model.specs.declared.object.Contents.{Contents}
-use Rattle.hm_model.specs.declared.object.Field.{Field}
-use Rattle.hm_model.specs.declared.object.Field.TheVariants.{Number, Refer}
-use Rattle.hm_model.specs.declared.entry.Tried.TheVariants.{Stored, Changed}
-use Rattle.hm_model.specs.declared.entry.Entry.{Entry}
-use Rattle.hm_model.specs.declared.entry.Entry.TheVariants.{Create, Fetch, Store, StoreIf}
-use Rattle.hm_model.specs.Store.{PlainStore, contents_of, IsThere, AreThere, with_changed}
-use Rattle.hm_model.specs.Effect.{caller_of, Stands, FieldStands, effect_of, with_field, with_all}
-use Rattle.hm_model.proofs.StoreFacts.{contents_of-changed, contents_of-changed_other}
-use Rattle.hm_model.proofs.EffectFacts.{there_contents, field_rises}
-use Rattle.hm_moves.specs.declared.part.Known.{Known}
-use Rattle.hm_moves.specs.declared.part.Part.{Part}
-use Rattle.hm_moves.specs.Allowed.{AreKnown, IsKnownField, Reads, Turns}
 
 -- a changed object has what the change makes of it
 changed_here : (f : Contents → Contents) (store : PlainStore) (n m : Name) (x y : Contents) → n ≡ m

@@ -1,26 +1,7 @@
 -- What an act finds, what it publishes, and by whom its entry is.
 use Rattle.std.proofs.Common.{◌≡◌, ℕ, zero, suc, List, slice_index, Option, Some, None, IfSome, refl, sym, ap, ◌∙◌, subst, arith}
-use Rattle.hm_shape.specs.Words.{word_at}
-use Rattle.hm_model.specs.declared.object.Name.{Name}
-use Rattle.hm_model.specs.declared.entry.Tried.TheVariants.{Stored, Changed}
-use Rattle.hm_model.specs.declared.entry.Entry.{Entry}
-use Rattle.hm_model.specs.declared.entry.Entry.TheVariants.{Create, Fetch, Store, StoreIf}
-use Rattle.hm_model.specs.Store.{PlainStore}
-use Rattle.hm_model.specs.Effect.{caller_of}
-use Rattle.hm_model.specs.History.{store_of}
-use Rattle.hm_moves.specs.declared.part.Known.{Known}
-use Rattle.hm_moves.specs.declared.part.Part.{Part}
-use Rattle.hm_moves.specs.declared.moving.Act.{Act}
-use Rattle.hm_moves.specs.declared.moving.Act.TheVariants.{Looks, Builds}
-use Rattle.hm_moves.specs.declared.moving.Look.TheVariants.{LoadStamp, LoadReference, LoadNumber, LoadLink}
-use Rattle.hm_moves.specs.declared.moving.Build.TheVariants.{StoreOwn, Publish, LinkStore}
-use Rattle.hm_moves.specs.Chain.{Index, IsPublished, with_one, lookup, Refers, IsLinked, reference_at}
-use Rattle.hm_moves.specs.Places.{Heap}
-use Rattle.hm_moves.specs.Acts.{next_version, word_of, entry_of, publishes, finds, want_of, looked_at}
-use Rattle.hm_moves.specs.After.{index_with}
-use Rattle.hm_moves.specs.Allowed.{HasRoom, MayLookInto, Reads, Turns, MayTake, TurnsBy}
-use Rattle.hm_moves.specs.Good.{HeapIsGood, PartIsGood}
-use Rattle.hm_moves.specs.Told.{IsReference, IsLink, Found}
+use Rattle.hm_moves.proofs.Words.{word_at, Name, Stored, Changed, Entry, Create, Fetch, Store, StoreIf, PlainStore, caller_of, store_of, Known, Part, Act, Looks, Builds, LoadStamp, LoadReference, LoadNumber, LoadLink, StoreOwn, Publish, LinkStore, Index, IsPublished, with_one, lookup}
+use Rattle.hm_moves.proofs.Words.{Refers, IsLinked, reference_at, Heap, next_version, word_of, entry_of, publishes, finds, want_of, looked_at, index_with, HasRoom, MayLookInto, Reads, Turns, MayTake, TurnsBy, HeapIsGood, PartIsGood, IsReference, IsLink, Found}
 use Rattle.hm_moves.proofs.Histories.{IsBy}
 use Rattle.hm_moves.proofs.Placed.{published_here, published_more}
 use Rattle.hm_moves.proofs.Heaps.{look_published, fresh_none}
@@ -29,16 +10,13 @@ use Rattle.hm_moves.proofs.Held.{zero_some, some_more}
 -- a word that refers names the version that is looked up
 refers_found : (index : Index) (w : ℕ) (r : Option Name) → Refers index w r
     → IsReference w (lookup index w) r × IfSome (lookup index w) (IsPublished index)
-refers_found index w None h =
-    subst (λ (x : ℕ). IsReference x (lookup index x) None × IfSome (lookup index x) (IsPublished index))
-    (sym h)
-    ((refl, refl), tt)
-refers_found index w (Some n) h =
-    let k : Known = h.0 in
-    let at : w ≡ suc k.version.0 = h.2 ∙ omega arith in
-    let found : lookup index w ≡ Some k = ap (lookup index) at ∙ h.1 in
-    subst (λ (o : Option Known). IsReference w o (Some n) × IfSome o (IsPublished index)) (sym found)
-    ((h.2, ap (λ (x : Name). Some x) (sym h.3)), h.1)
+refers_found index zero None h = ((refl, refl), tt)
+refers_found index (suc v) None h = absurd (omega arith)
+refers_found index zero (Some n) h = let a = h.2 in absurd (omega arith)
+refers_found index (suc v) (Some n) h = let same : v ≡ h.0.version.0 = let a = h.2 in omega arith in
+    let found : index v ≡ Some h.0 = ap index same ∙ h.1 in
+    subst (λ (o : Option Known). IsReference (suc v) o (Some n) × IfSome o (IsPublished index)) (sym found)
+    ((h.2, ap Some (sym h.3)), h.1)
 
 -- and so does a link
 linked_found : (index : Index) (store : PlainStore) (at : Known) (x : ℕ) → IsLinked index store at x

@@ -1,25 +1,7 @@
 -- The words of a fresh Table are laid one after another, and say what the starting objects hold.
 use Rattle.std.proofs.Common.{◌≡◌, ◌<◌, ◌≤◌, ◌+◌, ◌-◌, ◌*◌, ℕ, zero, suc, List, [], ◌∷◌, ◌++◌, length, map, get_or, replicate, Option, Some, None, IfSome, All, refl, sym, ap, ◌∙◌, subst, arith, append-nil, append_assoc, suc-mul}
-use Rattle.std.specs.Prelude.{slice_get}
-use Rattle.std.specs.List.{flat_map}
-use Rattle.std.proofs.lemmas.Nat.{mul-lt}
-use Rattle.std.proofs.lemmas.List.{length-append, length-map, length-replicate, get_or_append_left, get_or-append-add, get_or-map, get_or-replicate, map-append}
-use Rattle.std.proofs.lemmas.List.Elements.{All-nil, All-cons, All-append, All-get_or}
-use Rattle.std.proofs.lemmas.Grind.{flat_map-append}
-use Rattle.std.proofs.lemmas.Option.{get_or_from_slice_get, slice_get-get_or, slice_get_within}
-use Rattle.hm_shape.specs.declared.shape.Shape.{Shape}
-use Rattle.hm_shape.specs.Versions.{version_count}
-use Rattle.hm_shape.specs.Words.{reply_at, roles_at, word_at, word_count}
-use Rattle.hm_model.specs.declared.object.Name.{Name}
-use Rattle.hm_model.specs.declared.object.Start.{Start}
-use Rattle.hm_model.specs.Store.{Refs, Numbers, IsSized}
-use Rattle.hm_model.specs.Effect.{new_contents}
-use Rattle.hm_model.specs.History.{side_names, starting_count, starting_name, IsSizedStart}
-use Rattle.hm_moves.specs.declared.part.Known.{Known}
-use Rattle.hm_moves.specs.Chain.{IsPublished, Refers, words_at, reference_at}
-use Rattle.hm_moves.specs.Places.{only_to, row_count}
-use Rattle.hm_moves.specs.Fresh.{starting_known, side_known, common_known, all_known, fresh_index}
-use Rattle.hm_moves.specs.FirstWords.{AreFirst, LaysSide, count_word, first_words, head_words, known_words, laid_words}
+use Rattle.hm_moves.proofs.Words.{slice_get, flat_map, mul-lt, length-append, length-map, length-replicate, get_or_append_left, get_or-append-add, get_or-map, get_or-replicate, map-append, All-nil, All-cons, All-append, All-get_or, flat_map-append, get_or_from_slice_get, slice_get-get_or, slice_get_within, Shape, version_count, reply_at, roles_at, word_at, word_count, Name}
+use Rattle.hm_moves.proofs.Words.{Start, Refs, Numbers, IsSized, new_contents, side_names, starting_count, starting_name, IsSizedStart, Known, IsPublished, Refers, words_at, reference_at, only_to, row_count, starting_known, side_known, common_known, all_known, fresh_index, AreFirst, LaysSide, count_word, first_words, head_words, known_words, laid_words}
 use Rattle.hm_moves.proofs.Fresh.{AreNumbered, numbered_at, numbered, many, known_at}
 
 -- all side objects are laid, from number k on

@@ -1,40 +1,13 @@
 -- A move leaves a good heap.
 use Rattle.std.proofs.Common.{◌≡◌, ◌≢◌, ◌<◌, ◌+◌, ◌*◌, ℕ, zero, suc, List, [], ◌∷◌, ◌++◌, set, slice_index, slice_set, Option, Some, None, Contains, refl, sym, ap, ◌∙◌, subst, arith, inl, inr, ⊎_elim, append-nil, length-set, IfSome, ◌≤◌, get_or-set_other}
-use Rattle.std.proofs.lemmas.List.{set-get_or}
-use Rattle.hm_shape.specs.declared.shape.Shape.{Shape}
-use Rattle.hm_shape.specs.declared.version.Version.{Version}
-use Rattle.hm_shape.specs.Versions.{IsVersionOf}
-use Rattle.hm_shape.specs.Words.{word_at, naming_word, reply_at, roles_at}
-use Rattle.hm_model.specs.declared.object.Name.{Name}
-use Rattle.hm_model.specs.declared.object.Contents.{Contents}
-use Rattle.hm_model.specs.declared.entry.Entry.{Entry}
-use Rattle.hm_model.specs.declared.entry.Entry.TheVariants.{Create}
-use Rattle.hm_model.specs.Store.{PlainStore, contents_of, IsThere, made_count}
-use Rattle.hm_model.specs.Effect.{CreateStands, Stands, caller_of, effect_of, new_contents}
-use Rattle.hm_model.specs.History.{store_of, create_count}
-use Rattle.hm_model.specs.Lawful.{IsLawful, UsageLaws}
-use Rattle.hm_model.proofs.StoreFacts.{contents_of-push, contents_of-push_new}
-use Rattle.hm_model.proofs.EffectFacts.{there_after}
-use Rattle.hm_model.proofs.HistoryFacts.{store_after-append, well_made_legal, made_count-legal}
+use Rattle.hm_moves.proofs.Words.{set-get_or, Shape, Version, IsVersionOf, word_at, naming_word, reply_at, roles_at, Name, Contents, Entry, Create, PlainStore, contents_of, IsThere, made_count, CreateStands, Stands, caller_of, effect_of, new_contents, store_of, create_count, IsLawful, UsageLaws, contents_of-push, contents_of-push_new, there_after}
+use Rattle.hm_moves.proofs.Words.{store_after-append, well_made_legal, made_count-legal, Known, Part, Act, Looks, Builds, Look, LoadStamp, LoadReference, LoadNumber, LoadLink, StoreOwn, Publish, LinkStore, Heap, row_count, raised, HasHead, places_with, IsSizedVersion, ArePlaced, AreRanked, total, IsPublished, with_one, HasContents, Refers, IsLinked, AreChained}
+use Rattle.hm_moves.proofs.Words.{reference_at, link_of, next_version, word_of, want_of, looked_word, listed, where_zero, looked_at, heap_after, row_of_part, Spells, IsWritten, IsBuilt, MayLookInto, IsKnownName, HasRoom, IsFirst, MayTake, MayBegin, TurnsBy, MayLink, MayLook, Reads, HeapIsGood, PartIsGood, AreBelow, Contains-append_right}
 use Rattle.hm_model.proofs.WellMade.{fresh_name}
-use Rattle.hm_moves.specs.declared.part.Known.{Known}
-use Rattle.hm_moves.specs.declared.part.Part.{Part}
-use Rattle.hm_moves.specs.declared.moving.Act.{Act}
-use Rattle.hm_moves.specs.declared.moving.Act.TheVariants.{Looks, Builds}
-use Rattle.hm_moves.specs.declared.moving.Look.{Look}
-use Rattle.hm_moves.specs.declared.moving.Look.TheVariants.{LoadStamp, LoadReference, LoadNumber, LoadLink}
-use Rattle.hm_moves.specs.declared.moving.Build.TheVariants.{StoreOwn, Publish, LinkStore}
-use Rattle.hm_moves.specs.Places.{Heap, row_count, raised, HasHead, places_with, IsSizedVersion, ArePlaced, AreRanked, total}
-use Rattle.hm_moves.specs.Chain.{IsPublished, with_one, HasContents, Refers, IsLinked, AreChained, reference_at, link_of}
-use Rattle.hm_moves.specs.Acts.{next_version, word_of, want_of, looked_word, listed, where_zero, looked_at}
-use Rattle.hm_moves.specs.After.{heap_after, row_of_part}
-use Rattle.hm_moves.specs.Allowed.{Spells, IsWritten, IsBuilt, MayLookInto, IsKnownName, HasRoom, IsFirst, MayTake, MayBegin, TurnsBy, MayLink, MayLook, Reads}
-use Rattle.hm_moves.specs.Good.{HeapIsGood, PartIsGood, AreBelow}
 use Rattle.hm_moves.proofs.Histories.{below_more, lawful_with}
 use Rattle.hm_moves.proofs.Placed.{place_small, placed_more, elsewhere, written_here, contents_same, true_more, not_the_one, ranked_more}
 use Rattle.hm_moves.proofs.Chains.{chained_beside, chained_created, chained_hung}
 use Rattle.hm_moves.proofs.Entries.{all_there, reads_stand, turns_stand}
-use Rattle.std.proofs.lemmas.List.Elements.{Contains-append_right}
 use Rattle.hm_moves.proofs.Held.{from_some}
 
 -- a load that wants an entry is of a link

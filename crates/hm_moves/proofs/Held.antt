@@ -1,14 +1,6 @@
 -- Lists of held versions, and words of a draft that name them.
-use Rattle.std.proofs.Common.{◌≡◌, ◌≢◌, ◌⊎◌, ◌<◌, ◌≤◌, ◌+◌, ℕ, zero, suc, Bool, true, false, cond, not, filter, eqb, eq-eqb, ne_eqb, ◌&&◌, List, [], ◌∷◌, ◌++◌, length, get_or, replicate, Option, Some, None, IfSome, Contains, if◌then◌else◌, refl, sym, ap, ◌∙◌, subst, arith, inl, inr, ⊎_elim, append-nil}
-use Rattle.std.specs.List.{list_any}
-use Rattle.std.proofs.lemmas.Grind.{common_steps}
-use Rattle.std.proofs.lemmas.List.Elements.{Contains-push_cases, Contains-append_left}
-use native.Mathlib.Decide.{dec_le}
-use Rattle.hm_shape.specs.Words.{naming_word}
-use Rattle.hm_moves.specs.declared.part.Known.{Known}
-use Rattle.hm_moves.specs.Acts.{listed, where_zero}
-use Rattle.hm_moves.specs.After.{is_version, without, with_held, is_naming, unless_named, unnamed_from, unnamed, nothing_written}
-use Rattle.hm_moves.specs.Allowed.{IsWritten, Names}
+use Rattle.std.proofs.Common.{◌≡◌, ◌≢◌, ◌⊎◌, ◌<◌, ◌≤◌, ◌+◌, ℕ, zero, suc, Bool, true, false, cond, not, filter, ne_eqb, List, [], ◌∷◌, ◌++◌, length, get_or, replicate, Option, Some, None, IfSome, Contains, refl, sym, ap, ◌∙◌, subst, arith, inl, inr, ⊎_elim, append-nil}
+use Rattle.hm_moves.proofs.Words.{All-contains, All-contains_itself, All-filter, common_steps, Contains-push_cases, Contains-append_left, naming_word, Known, listed, where_zero, is_version, without, with_held, is_naming, unless_named, unnamed_from, unnamed, nothing_written, IsWritten, Names, nat_tests}
 
 -- a list with one more or none
 pub listed_cases : {A : Type 0} (l : List A) (o : Option A) (a : A) → Contains (l ++ listed o) a
@@ -21,6 +13,11 @@ listed_cases {A} l (Some b) a h =
 pub from_some : {A : Type 0} (P : A → Type 0) (o : Option A) (a : A) → o ≡ Some a → IfSome o P → P a
 from_some P None a e h = cc
 from_some P (Some b) a e h = let is : b ≡ a = cc in subst P is h
+
+-- what holds of each that it may be, holds of what there is
+pub each_some : {A : Type 0} (P : A → Type 0) (o : Option A) → ((a : A) → o ≡ Some a → P a) → IfSome o P
+each_some P None f = tt
+each_some P (Some a) f = f a refl
 
 -- what there is has what follows from what it has
 pub some_more : {A : Type 0} (P Q : A → Type 0) → ((a : A) → P a → Q a) → (o : Option A) → IfSome o P
@@ -38,21 +35,13 @@ zero_some P (Some a) (suc v) h = tt
 pub held_cases : (held : List Known) (o : Option Known) (k : Known) → Contains (with_held held o) k
     → Contains held k ⊎ (o ≡ Some k)
 held_cases held None k h = inl h
-held_cases held (Some m) k h = go (list_any (is_version m) held) h
-  where
-    go : (t : Bool) → Contains (if t then held else held ++ m ∷ []) k → Contains held k ⊎ (Some m ≡ Some k)
-    go true c = inl c
-    go false c = listed_cases held (Some m) k c
+held_cases held (Some m) k h = grind (arith, common_steps, listed_cases held (Some m) k)
 
 -- held versions stay held
 pub held_stays : (held : List Known) (o : Option Known) (k : Known) → Contains held k → Contains
     (with_held held o) k
 held_stays held None k h = h
-held_stays held (Some m) k h = go (list_any (is_version m) held)
-  where
-    go : (t : Bool) → Contains (if t then held else held ++ m ∷ []) k
-    go true = h
-    go false = Contains-append_left held (m ∷ []) k h
+held_stays held (Some m) k h = grind (arith, common_steps, Contains-append_left held (m ∷ []) k h)
 
 module _ {A : Type 0} where
   -- an element of a list is its first or behind it
@@ -67,28 +56,19 @@ module _ {A : Type 0} where
   contains_here x y xs is = (zero, (omega arith), is)
 
   -- what passes a test was there
-  filter_was : (f : A → Bool) (l : List A) (x : A) → Contains (filter f l) x → Contains l x
-  filter_was f [] x h = h
-  filter_was f (y ∷ ys) x h = go (f y) (filter_was f ys x) h
-    where
-      go : (t : Bool) → (Contains (filter f ys) x → Contains ys x)
-          → Contains (cond t (y ∷ filter f ys) (filter f ys)) x → Contains (y ∷ ys) x
-      go true rest c = ⊎_elim (λ (e : y ≡ x). contains_here x y ys e)
-          (λ (d : Contains (filter f ys) x). contains_behind x y ys (rest d))
-          (contains_first x y (filter f ys) c)
-      go false rest c = contains_behind x y ys (rest c)
+  pub filter_was : (f : A → Bool) (l : List A) (x : A) → Contains (filter f l) x → Contains l x
+  filter_was f l x h = All-contains (Contains l) (filter f l) x (All-filter f (Contains l) l (All-contains_itself l)) h
 
   -- what was there and passes is there still
-  filter_still : (f : A → Bool) (l : List A) (x : A) → Contains l x → f x ≡ true → Contains (filter f l) x
+  pub filter_still : (f : A → Bool) (l : List A) (x : A) → Contains l x → f x ≡ true → Contains (filter f l) x
   filter_still f [] x h pass = h
   filter_still f (y ∷ ys) x h pass = ⊎_elim
       (λ (e : y ≡ x). let here : f y ≡ true = ap f e ∙ pass in
       rw here (contains_here x y (filter f ys) e))
-      (λ (c : Contains ys x). go (f y) (filter_still f ys x c pass)) (contains_first x y ys h)
-    where
-      go : (t : Bool) → Contains (filter f ys) x → Contains (cond t (y ∷ filter f ys) (filter f ys)) x
-      go true c = contains_behind x y (filter f ys) c
-      go false c = c
+      (λ (c : Contains ys x). let rest = filter_still f ys x c pass in
+      elim (f y) as (λ t. Contains (cond t (y ∷ filter f ys) (filter f ys)) x)
+      [ true ↦ contains_behind x y (filter f ys) rest | false ↦ rest ])
+      (contains_first x y ys h)
 
 -- what stays held was held
 pub without_held : (held : List Known) (o : Option Known) (k : Known) → Contains (without held o) k → Contains
@@ -116,11 +96,7 @@ past (x ∷ xs) (suc j) h = past xs j (omega arith)
 
 -- only 16 words are written
 pub written_low : (l : List (Option ℕ)) (j w : ℕ) → length l ≡ 16 → IsWritten l j w → j < 16
-written_low l j w wide h = go (dec_le 16 j)
-  where
-    go : Dec (16 ≤ j) → j < 16
-    go (yes d) = let none : None ≡ Some w = sym (past l j (omega arith)) ∙ h in cc
-    go (no d) = omega arith
+written_low l j w wide h = grind (arith, past l j)
 
 unnamed_wide_from : (k : Known) (i : ℕ) (l : List (Option ℕ)) → length (unnamed_from k i l) ≡ length l
 unnamed_wide_from k i [] = refl
@@ -135,37 +111,14 @@ unnamed_wide (Some k) l = unnamed_wide_from k 0 l
 unless_was : (k : Known) (i : ℕ) (o : Option ℕ) (w : ℕ) → unless_named k i o ≡ Some w
     → (o ≡ Some w) × (is_naming i ≡ true → w ≢ naming_word (Some k.version))
 unless_was k i None w h = cc
-unless_was k i (Some x) w h = go (is_naming i) refl (eqb x (naming_word (Some k.version))) refl h
-  where
-    go : (a : Bool) → is_naming i ≡ a → (b : Bool) → eqb x (naming_word (Some k.version)) ≡ b
-        → (if a && b then None else Some x) ≡ Some w
-        → (Some x ≡ Some w) × (is_naming i ≡ true → w ≢ naming_word (Some k.version))
-    go true ea true eb e = cc
-    go true ea false eb e = (
-      e,
-      λ (n : is_naming i ≡ true) (z : w ≡ naming_word (Some k.version)).
-          let is : x ≡ w = cc in
-          let bad : eqb x (naming_word (Some k.version)) ≡ true = eq-eqb x (naming_word (Some k.version))
-          (is ∙ z) in
-          let both : true ≡ false = sym bad ∙ eb in cc,
-    )
-    go false ea b eb e = (e, λ (n : is_naming i ≡ true). let both : true ≡ false = sym n ∙ ea in cc)
+unless_was k i (Some x) w h = grind (arith, common_steps, nat_tests)
 
 unnamed_was_from : (k : Known) (i : ℕ) (l : List (Option ℕ)) (j w : ℕ)
     → get_or (unnamed_from k i l) j None ≡ Some w
     → (get_or l j None ≡ Some w) × (is_naming (j + i) ≡ true → w ≢ naming_word (Some k.version))
 unnamed_was_from k i [] j w h = cc
-unnamed_was_from k i (x ∷ xs) zero w h =
-    let r = unless_was k i x w h in
-    let at : i ≡ zero + i = omega arith in (
-      r.0,
-      λ (n : is_naming (zero + i) ≡ true). r.1
-          (ap is_naming at ∙ n),
-    )
-unnamed_was_from k i (x ∷ xs) (suc j) w h =
-    let r = unnamed_was_from k (i + 1) xs j w h in
-    let at : j + (i + 1) ≡ suc j + i = omega arith in
-    (r.0, λ (n : is_naming (suc j + i) ≡ true). r.1 (ap is_naming at ∙ n))
+unnamed_was_from k i (x ∷ xs) zero w h = grind (arith, unless_was k i x w h)
+unnamed_was_from k i (x ∷ xs) (suc j) w h = grind (arith, unnamed_was_from k (i + 1) xs j w h)
 
 -- so for each word of a draft
 pub unnamed_was : (o : Option Known) (l : List (Option ℕ)) (j w : ℕ) → IsWritten (unnamed o l) j w → IsWritten

@@ -1,16 +1,6 @@
 -- Histories, their beginnings, and one entry more.
-use Rattle.std.proofs.Common.{◌≡◌, ◌≢◌, ◌<◌, ◌≤◌, ℕ, eq-eqb, ne_eqb, Bool, true, false, List, [], ◌∷◌, ◌++◌, length, nat_lt, Option, Some, None, IfSome, if◌then◌else◌, refl, sym, ap, ◌∙◌, subst, append_assoc, append-nil, arith}
-use Rattle.std.proofs.lemmas.Bool.Decides.{nat_tests}
-use Rattle.std.proofs.lemmas.List.Elements.{All-nil, All-cons, All-head, All-tail}
-use Rattle.hm_model.specs.declared.object.Start.{Start}
-use Rattle.hm_model.specs.declared.entry.Entry.{Entry}
-use Rattle.hm_model.specs.Store.{PlainStore}
-use Rattle.hm_model.specs.Effect.{caller_of, Stands}
-use Rattle.hm_model.specs.History.{store_after, store_of, AllStand, calls_of, AreOthers, opening_of}
-use Rattle.hm_model.specs.Lawful.{MayCome, AllCome, IsLawful, UsageLaws, MayMake}
-use Rattle.hm_model.proofs.HistoryFacts.{store_after-append, calls_of-append, all_stand_parts, all_come_parts, lawful_more}
-use Rattle.hm_moves.specs.Acts.{listed}
-use Rattle.hm_moves.specs.Good.{Begins, AreBelow, longer, HasCalls}
+use Rattle.std.proofs.Common.{◌≡◌, ◌≢◌, ◌<◌, ◌≤◌, ℕ, eq-eqb, ne_eqb, true, false, List, [], ◌∷◌, ◌++◌, length, nat_lt, Option, Some, None, IfSome, if◌then◌else◌, refl, sym, ap, ◌∙◌, subst, append_assoc, append-nil, arith}
+use Rattle.hm_moves.proofs.Words.{nat_tests, All-nil, All-cons, All-head, All-tail, Start, Entry, PlainStore, caller_of, Stands, store_after, store_of, AllStand, calls_of, AreOthers, opening_of, MayCome, AllCome, IsLawful, UsageLaws, MayMake, store_after-append, calls_of-append, all_stand_parts, all_come_parts, lawful_more, listed, Begins, AreBelow, longer, HasCalls}
 
 -- the entry, if there is one, is by this caller
 abbrev pub IsBy : ℕ → Option Entry → Type 0
@@ -27,18 +17,14 @@ calls_others p q (Some e) h n = rw (ne_eqb (caller_of e) q (λ is. n (sym h ∙ 
 -- the calls of the caller that makes the entry
 pub calls_after : (q : ℕ) (h m : List Entry) (o : Option Entry) → IsBy q o → calls_of q h ≡ m
     → calls_of q (h ++ listed o) ≡ m ++ listed o
-calls_after q h m o by is =
-    calls_of-append q h (listed o)
-    ∙ (ap (λ (l : List Entry). l ++ calls_of q (listed o)) is
-    ∙ ap (λ (l : List Entry). m ++ l) (calls_own q o by))
+calls_after q h m o by is = let a = calls_of-append q h (listed o) in let b = calls_own q o by in cc
 
 -- and of another
 pub calls_beside : (p q : ℕ) (h m : List Entry) (o : Option Entry) → IsBy p o → p ≢ q → calls_of q h ≡ m
     → calls_of q (h ++ listed o) ≡ m
 calls_beside p q h m o by n is =
-    calls_of-append q h (listed o)
-    ∙ (ap (λ (l : List Entry). calls_of q h ++ l) (calls_others p q o by n)
-    ∙ (append-nil (calls_of q h) ∙ is))
+    let a = calls_of-append q h (listed o) in let b = calls_others p q o by n in
+    let c = append-nil (calls_of q h) in cc
 
 -- a longer list begins so too
 pub begins_more : (xs ys zs : List Entry) → Begins xs ys → Begins xs (ys ++ zs)
@@ -97,9 +83,7 @@ nothing_more (x ∷ xs) ys h = nothing_more xs ys (cc)
 pub others_only : (q : ℕ) (seen h m rest : List Entry) → h ≡ seen ++ rest → calls_of q h ≡ m
     → calls_of q seen ≡ m → AreOthers q rest
 others_only q seen h m rest is all here =
-    nothing_more m (calls_of q rest)
-    (ap (λ (l : List Entry). l ++ calls_of q rest) (sym here)
-    ∙ (sym (calls_of-append q seen rest) ∙ (ap (calls_of q) (sym is) ∙ all)))
+    let a = calls_of-append q seen rest in nothing_more m (calls_of q rest) (cc)
 
 first_nothing : (xs ys : List Entry) → xs ++ ys ≡ [] → xs ≡ []
 first_nothing [] ys h = refl
@@ -124,18 +108,12 @@ begins_longer xs ys h b d =
 
 -- either of two beginnings of one history begins the longer of them
 pub left_begins : (xs ys h : List Entry) → Begins xs h → Begins ys h → Begins xs (longer xs ys)
-left_begins xs ys h b d = go (nat_lt (length xs) (length ys)) refl
-  where
-    go : (t : Bool) → nat_lt (length xs) (length ys) ≡ t → Begins xs (if t then ys else xs)
-    go true is = begins_shorter xs ys h b.rest d.rest b.is d.is (grind (arith, nat_tests))
-    go false is = begins_self xs
+left_begins xs ys h b d = elim (nat_lt (length xs) (length ys)) as (λ t. nat_lt (length xs) (length ys) ≡ t → Begins xs (if t then ys else xs))
+    [ true ↦ λ is. begins_shorter xs ys h b.rest d.rest b.is d.is (grind (arith, nat_tests)) | false ↦ λ is. begins_self xs ] refl
 
 pub right_begins : (xs ys h : List Entry) → Begins xs h → Begins ys h → Begins ys (longer xs ys)
-right_begins xs ys h b d = go (nat_lt (length xs) (length ys)) refl
-  where
-    go : (t : Bool) → nat_lt (length xs) (length ys) ≡ t → Begins ys (if t then ys else xs)
-    go true is = begins_self ys
-    go false is = begins_shorter ys xs h d.rest b.rest d.is b.is (grind (arith, nat_tests))
+right_begins xs ys h b d = elim (nat_lt (length xs) (length ys)) as (λ t. nat_lt (length xs) (length ys) ≡ t → Begins ys (if t then ys else xs))
+    [ true ↦ λ is. begins_self ys | false ↦ λ is. begins_shorter ys xs h d.rest b.rest d.is b.is (grind (arith, nat_tests)) ] refl
 
 -- what lies between a beginning that has all calls of a caller and the whole has them too
 pub calls_between : (q : ℕ) (xs ys h m : List Entry) → Begins xs ys → Begins ys h → calls_of q h ≡ m
@@ -143,12 +121,10 @@ pub calls_between : (q : ℕ) (xs ys h m : List Entry) → Begins xs ys → Begi
 calls_between q xs ys h m a d all here =
     let A : List Entry = calls_of q a.rest in
     let D : List Entry = calls_of q d.rest in
-    let ys_is : calls_of q ys ≡ m ++ A = ap (calls_of q) a.is
-    ∙ (calls_of-append q xs a.rest ∙ ap (λ (l : List Entry). l ++ A) here) in
-    let all_is : (m ++ A) ++ D ≡ m = ap (λ (l : List Entry). l ++ D) (sym ys_is)
-    ∙ (sym (calls_of-append q ys d.rest) ∙ (ap (calls_of q) (sym d.is) ∙ all)) in
-    let nothing : A ++ D ≡ [] = nothing_more m (A ++ D) (sym (append_assoc m A D) ∙ all_is) in
-    ys_is ∙ (ap (λ (l : List Entry). m ++ l) (first_nothing A D nothing) ∙ append-nil m)
+    let b = calls_of-append q xs a.rest in
+    let c = calls_of-append q ys d.rest in
+    let e = append_assoc m A D in
+    let nothing = first_nothing A D (nothing_more m (A ++ D) (cc)) in let f = append-nil m in cc
 
 -- two ways to begin one list
 same_start : (a x y : List Entry) → a ++ x ≡ a ++ y → x ≡ y

@@ -1,14 +1,6 @@
 -- A caller that lets go of a version leaves a good machine.
 use Rattle.std.proofs.Common.{ℕ, List, Option, refl, ◌∙◌}
-use Rattle.hm_model.specs.declared.entry.Entry.{Entry}
-use Rattle.hm_model.specs.Store.{PlainStore}
-use Rattle.hm_moves.specs.declared.part.Known.{Known}
-use Rattle.hm_moves.specs.declared.part.Site.{Site}
-use Rattle.hm_moves.specs.declared.part.Part.{Part}
-use Rattle.hm_moves.specs.declared.part.View.{View}
-use Rattle.hm_moves.specs.Places.{Heap}
-use Rattle.hm_moves.specs.After.{letting}
-use Rattle.hm_moves.specs.Good.{Begins, PartIsGood, Core, Good, Carries, released}
+use Rattle.hm_moves.proofs.Words.{Entry, PlainStore, Known, Site, Part, View, Heap, letting, Begins, PartIsGood, Core, Good, Carries, released}
 use Rattle.hm_moves.proofs.Held.{names_without, unnamed_was, unnamed_wide, without_held}
 use Rattle.hm_moves.proofs.Replaced.{apart_now, by_part, by_seat}
 

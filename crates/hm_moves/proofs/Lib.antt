@@ -1,3 +1,5 @@
+-- words and lemmas from lower crates, for all of these
+pub mod Words
 -- histories and their beginnings
 pub mod Histories
 -- elements of lists by place, and what is held

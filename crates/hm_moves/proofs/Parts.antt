@@ -1,32 +1,7 @@
 -- What a move leaves of the caller that makes it, and of the others.
 use Rattle.std.proofs.Common.{◌≡◌, ◌≢◌, ◌⊎◌, ◌||◌, ◌<◌, ◌+◌, ◌*◌, ℕ, zero, suc, true, List, [], ◌∷◌, ◌++◌, length, set, slice_index, slice_set, get_or, Option, Some, None, IfSome, Contains, refl, sym, ap, ◌∙◌, subst, arith, inl, inr, ⊎_elim, append-nil, length-set, get_or-set_same, get_or-set_other, append_assoc, false, ne_eqb, Bool, ◌||◌}
-use Rattle.std.proofs.lemmas.List.Elements.{Contains-push, Contains-append_left}
-use native.Mathlib.Decide.{ℕ_discrete}
-use mathlib.Core.Logic.{dite}
-use Rattle.hm_shape.specs.declared.shape.Shape.{Shape}
-use Rattle.hm_shape.specs.declared.version.Version.{Version}
-use Rattle.hm_shape.specs.Versions.{IsAt, version_at}
-use Rattle.hm_shape.specs.Words.{word_at}
-use Rattle.hm_model.specs.declared.object.Name.{Name}
-use Rattle.hm_model.specs.declared.entry.Entry.{Entry}
-use Rattle.hm_model.specs.Store.{PlainStore}
-use Rattle.hm_model.specs.History.{calls_of, opening_of}
-use Rattle.hm_model.specs.Lawful.{IsLawful}
-use Rattle.hm_moves.specs.declared.part.Known.{Known}
-use Rattle.hm_moves.specs.declared.part.Part.{Part}
-use Rattle.hm_moves.specs.declared.moving.Act.{Act}
-use Rattle.hm_moves.specs.declared.moving.Act.TheVariants.{Looks, Builds}
-use Rattle.hm_moves.specs.declared.moving.Look.{Look}
-use Rattle.hm_moves.specs.declared.moving.Look.TheVariants.{LoadStamp, LoadReference, LoadNumber, LoadLink}
-use Rattle.std.specs.List.{list_any}
-use Rattle.hm_moves.specs.declared.moving.Build.TheVariants.{StoreOwn, Publish, LinkStore}
-use Rattle.hm_moves.specs.declared.moving.Move.{Move}
-use Rattle.hm_moves.specs.Places.{Heap, row_of, Places, IsOwn, places_with}
-use Rattle.hm_moves.specs.Chain.{IsPublished, Index}
-use Rattle.hm_moves.specs.Acts.{next_version, word_of, becomes, entry_of, publishes, finds, listed, looked_at, looked_word}
-use Rattle.hm_moves.specs.After.{heap_after, index_with, row_of_part, count_of, is_naming, written_with, without, with_held, hands_after, part_after, seen_after, is_version}
-use Rattle.hm_moves.specs.Allowed.{IsWritten, Names, HasRoom, IsWritable, MayLookInto, MayTake, IsWordOf}
-use Rattle.hm_moves.specs.Good.{Begins, HeapIsGood, PartIsGood, HasCalls, AreIndexed, AreApart, published_of}
+use Rattle.hm_moves.proofs.Words.{Contains-push, Contains-append_left, ℕ_discrete, dite, Shape, Version, IsAt, version_at, word_at, Name, Entry, PlainStore, calls_of, opening_of, IsLawful, Known, Part, Act, Looks, Builds, Look, LoadStamp, LoadReference, LoadNumber, LoadLink, list_any, StoreOwn, Publish, LinkStore, Move, Heap, row_of, Places, IsOwn, places_with, IsPublished, Index, next_version, word_of}
+use Rattle.hm_moves.proofs.Words.{becomes, entry_of, publishes, finds, listed, looked_at, looked_word, heap_after, index_with, row_of_part, count_of, is_naming, written_with, without, with_held, hands_after, part_after, seen_after, is_version, IsWritten, Names, HasRoom, IsWritable, MayLookInto, MayTake, IsWordOf, Begins, HeapIsGood, PartIsGood, HasCalls, AreIndexed, AreApart, published_of}
 use Rattle.hm_moves.proofs.Histories.{IsBy, calls_after, calls_beside, begins_more, begins_on, begins_self, lawful_before}
 use Rattle.hm_moves.proofs.Placed.{published_either, raised_here, raised_else, same_row, elsewhere, written_here, raised_here, raised_else, not_the_one}
 use Rattle.hm_moves.proofs.Held.{listed_cases, from_some, held_cases, held_stays, without_held, none_written, written_low, unnamed_wide, unnamed_was, names_without, names_more, contains_here, contains_behind}

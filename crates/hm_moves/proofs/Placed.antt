@@ -1,16 +1,6 @@
 -- Where versions lie, how they are counted, and one version more.
-use Rattle.std.proofs.Common.{◌≡◌, ◌≢◌, ◌⊎◌, ◌<◌, ◌≤◌, ◌+◌, ◌*◌, ℕ, zero, suc, eqb, eq-eqb, ne_eqb, true, false, List, length, slice_index, slice_set, Option, Some, None, refl, sym, ap, ◌∙◌, subst, arith, inl, inr, ⊎_elim, get_or-set_other, get_or-set_same, suc-mul, mul-le-mul_right, lt_of_not-le, IsSome, Bool, mul-le-mul_left, if◌then◌else◌, mul-suc, mul_assoc}
-use Rattle.std.proofs.lemmas.Bool.Decides.{eqb_tells}
-use native.Mathlib.Decide.{ℕ_discrete, dec_le}
-use mathlib.Core.Logic.{dite}
-use Rattle.hm_shape.specs.declared.shape.Shape.{Shape}
-use Rattle.hm_shape.specs.declared.version.Version.{Version}
-use Rattle.hm_shape.specs.Versions.{IsVersionOf}
-use Rattle.hm_shape.specs.Words.{word_at, word_count}
-use Rattle.hm_model.specs.declared.object.Name.{Name}
-use Rattle.hm_moves.specs.declared.part.Known.{Known}
-use Rattle.hm_moves.specs.Chain.{Index, IsPublished, with_one, words_at, Refers, Follows, HasContents, AreTrue, reference_at}
-use Rattle.hm_moves.specs.Places.{IsSizedVersion, ArePlaced, row_count, total, raised, Places, rank_limit, AreRanked, places_with}
+use Rattle.std.proofs.Common.{◌≡◌, ◌≢◌, ◌⊎◌, ◌<◌, ◌≤◌, ◌+◌, ◌*◌, ℕ, zero, suc, eq-eqb, ne_eqb, List, length, slice_index, slice_set, Option, Some, None, refl, sym, ap, ◌∙◌, subst, arith, ⊎_elim, get_or-set_other, get_or-set_same, suc-mul, mul-le-mul_right, lt_of_not-le, IsSome, mul-le-mul_left, mul-suc, mul_assoc}
+use Rattle.hm_moves.proofs.Words.{nat_tests, common_steps, eqb_tells, ℕ_discrete, dec_le, dite, Shape, Version, IsVersionOf, word_at, word_count, Name, Known, Index, IsPublished, with_one, words_at, Refers, Follows, HasContents, AreTrue, reference_at, IsSizedVersion, ArePlaced, row_count, total, raised, Places, rank_limit, AreRanked, places_with}
 
 -- a version that is published last is published
 pub published_here : (index : Index) (k : Known) → IsPublished (with_one index k) k
@@ -37,12 +27,7 @@ abbrev pub Either : Index → Known → Known → Type 0
 Either index k m = (k ≡ m) ⊎ ((m.version.0 ≢ k.version.0) × IsPublished index m)
 
 pub published_either : (index : Index) (k m : Known) → IsPublished (with_one index k) m → Either index k m
-published_either index k m h = ⊎_elim
-    (λ (t : (eqb m.version.0 k.version.0 ≡ true) × (m.version.0 ≡ k.version.0)).
-    let both : Some k ≡ Some m = rw t.0 at h in inl (cc))
-    (λ (t : (eqb m.version.0 k.version.0 ≡ false) × (m.version.0 ≢ k.version.0)).
-    let it : IsPublished index m = rw t.0 at h in inr (t.1, it))
-    (eqb_tells m.version.0 k.version.0)
+published_either index k m h = grind (arith, common_steps, eqb_tells m.version.0 k.version.0)
 
 -- a word refers as before
 pub refers_more : (index : Index) (k : Known) (w : ℕ) (r : Option Name) → index k.version.0 ≡ None
@@ -128,17 +113,12 @@ raised_else count q r n = rw (ne_eqb r q n) refl
 
 total_above : (count : ℕ → ℕ) (q n : ℕ) → n ≤ q → total (raised count q) n ≡ total count n
 total_above count q zero le = refl
-total_above count q (suc n) le =
-    let a = total_above count q n (omega arith) in
-    let b = raised_else count q n (λ e. omega arith) in omega arith
+total_above count q (suc n) le = grind (arith, common_steps, nat_tests, total_above count q n)
 
 -- one more is counted once
 pub total_more : (count : ℕ → ℕ) (q n : ℕ) → q < n → total (raised count q) n ≡ total count n + 1
 total_more count q zero h = absurd (omega arith)
-total_more count q (suc n) h = dite (ℕ_discrete n q)
-    (λ e. let a = total_above count q n (omega arith) in
-    let b : raised count q n ≡ count n + 1 = rw (eq-eqb n q e) refl in omega arith)
-    (λ ne. let a = total_more count q n (omega arith) in let b = raised_else count q n ne in omega arith)
+total_more count q (suc n) h = grind (arith, common_steps, nat_tests, total_above count q n, total_more count q n)
 
 -- no more are counted than there is place for
 pub total_small : (used : ℕ → ℕ) (n size : ℕ) → ((q : ℕ) → used q ≤ size) → total used n ≤ n * size
@@ -167,11 +147,7 @@ rank_small s index places done placed ranked k is =
     let b = made_small s places done placed.filled ranked.made ranked.freed in omega arith
 
 still_some : (index : Index) (k : Known) (v : ℕ) → IsSome (index v) → IsSome (with_one index k v)
-still_some index k v h = go (eqb v k.version.0)
-  where
-    go : (t : Bool) → IsSome (if t then Some k else index v)
-    go true = refl
-    go false = h
+still_some index k v h = grind (arith, common_steps)
 
 module _ (s : Shape) (index : Index) (places : Places) (row : ℕ) (k : Known)
     (placed : ArePlaced s index places.used)
@@ -192,26 +168,16 @@ module _ (s : Shape) (index : Index) (places : Places) (row : ℕ) (k : Known)
   by_row P r here there = dite (ℕ_discrete r row) (λ e. subst P (sym e) here) there
 
   taken_here : (i : ℕ) → i < raised used row row → IsSome (with_one index k (row * s.versions + i))
-  taken_here i low =
-      let one = raised_here used row in dite (ℕ_discrete i (used row))
-      (λ e. let same : row * s.versions + i ≡ k.version.0 = omega arith in
-      rw (eq-eqb (row * s.versions + i) k.version.0 same) refl)
-      (λ ne. still_some index k (row * s.versions + i) (placed.taken row i below (omega arith)))
+  taken_here i low = grind (arith, common_steps, nat_tests, placed.taken row i below)
 
   unused_here : (i : ℕ) → i < s.versions → raised used row row ≤ i
       → with_one index k (row * s.versions + i) ≡ None
-  unused_here i little past =
-      let one = raised_here used row in
-      let apart : row * s.versions + i ≢ k.version.0 = λ is. omega arith in
-      rw (ne_eqb (row * s.versions + i) k.version.0 apart) (placed.unused row i below little (omega arith))
+  unused_here i little past = grind (arith, common_steps, nat_tests, placed.unused row i below little)
 
   unused_else : (r i : ℕ) → r ≢ row → r < row_count s → i < s.versions → raised used row r ≤ i
       → with_one index k (r * s.versions + i) ≡ None
   unused_else r i ne low little past =
-      let one = raised_else used row r ne in
-      let apart : r * s.versions + i ≢ k.version.0 =
-      λ is. ne (same_row r row s.versions i (used row) little room (is ∙ at)) in
-      rw (ne_eqb (r * s.versions + i) k.version.0 apart) (placed.unused r i low little (omega arith))
+      grind (arith, common_steps, nat_tests, placed.unused r i low little, same_row r row s.versions i (used row) little room)
 
   -- a version more lies at that place
   pub placed_more : IsSizedVersion k → ArePlaced s (with_one index k) (raised used row)

@@ -1,7 +1,6 @@
 -- Elements of lists by place, after one is replaced and after lists are put together.
-use Rattle.std.proofs.Common.{◌≡◌, ◌≢◌, ◌⊎◌, ℕ, zero, suc, ◌+◌, ◌<◌, List, [], ◌∷◌, ◌++◌, length, set, refl, sym, ap, subst, arith, ⊎_elim, inl, inr}
-use mathlib.Core.Option.{some, some-injective, some-ne-none}
-use lib.ListN.{get_elem?}
+use Rattle.std.proofs.Common.{◌≡◌, ◌≢◌, ◌⊎◌, ℕ, zero, suc, ◌+◌, ◌<◌, List, [], ◌∷◌, ◌++◌, length, set, refl, sym, ap, subst, arith, inl, inr}
+use Rattle.hm_moves.proofs.Words.{some, some-injective, some-ne-none, get_elem?}
 
 module _ {A : Type 0} where
   -- an element is the one that was put there, or one from before
@@ -11,10 +10,7 @@ module _ {A : Type 0} where
   at_set (x ∷ xs) zero zero a b e = inl (refl, some-injective a b e)
   at_set (x ∷ xs) zero (suc j) a b e = inr ((λ z. omega arith), e)
   at_set (x ∷ xs) (suc i) zero a b e = inr ((λ z. omega arith), e)
-  at_set (x ∷ xs) (suc i) (suc j) a b e = ⊎_elim
-      (λ (t : (j ≡ i) × (a ≡ b)). inl (ap suc t.0, t.1))
-      (λ (t : (j ≢ i) × (get_elem? xs j ≡ some b)). inr ((λ z. t.0 (omega arith)), t.1))
-      (at_set xs i j a b e)
+  at_set (x ∷ xs) (suc i) (suc j) a b e = grind (arith, at_set xs i j a b e)
 
   -- elements of the first list stay where they are
   pub at_longer : (l m : List A) (i : ℕ) (a : A) → get_elem? l i ≡ some a → get_elem? (l ++ m) i ≡ some a
@@ -42,10 +38,7 @@ module _ {A : Type 0} where
   at_end [] a b zero e = inl (refl, some-injective a b e)
   at_end [] a b (suc j) e = absurd (some-ne-none b (sym e))
   at_end (x ∷ xs) a b zero e = inr (omega arith, e)
-  at_end (x ∷ xs) a b (suc j) e = ⊎_elim
-      (λ (t : (j ≡ length xs) × (a ≡ b)). inl (let h = t.0 in omega arith, t.1))
-      (λ (t : (j < length xs) × (get_elem? xs j ≡ some b)). inr (let h = t.0 in omega arith, t.1))
-      (at_end xs a b j e)
+  at_end (x ∷ xs) a b (suc j) e = grind (arith, at_end xs a b j e)
 
   -- an element of either list
   pub at_either : (l m : List A) (k : ℕ) (a : A) → get_elem? (l ++ m) k ≡ some a
@@ -53,11 +46,7 @@ module _ {A : Type 0} where
       ((i : ℕ) × (k ≡ length l + i) × (get_elem? m i ≡ some a))
   at_either [] m k a e = inr (k, omega arith, e)
   at_either (x ∷ xs) m zero a e = inl (omega arith, e)
-  at_either (x ∷ xs) m (suc k) a e = ⊎_elim
-      (λ (t : (k < length xs) × (get_elem? xs k ≡ some a)). inl (let h = t.0 in omega arith, t.1))
-      (λ (t : (i : ℕ) × (k ≡ length xs + i) × (get_elem? m i ≡ some a)).
-      inr (t.0, let h = t.1 in omega arith, t.2))
-      (at_either xs m k a e)
+  at_either (x ∷ xs) m (suc k) a e = grind (arith, at_either xs m k a e)
 
   -- what was put at a place that had an element is there
   pub set_here : (l : List A) (i : ℕ) (a b : A) → get_elem? l i ≡ some a → get_elem? (set l i b) i ≡ some b

@@ -1,12 +1,6 @@
 -- Seats and callers of a machine in which one caller was replaced by what it became.
 use Rattle.std.proofs.Common.{◌≡◌, ◌≢◌, ◌⊎◌, ℕ, List, slice_set, refl, sym, ap, ◌∙◌, ⊎_elim, subst}
-use mathlib.Core.Option.{some}
-use lib.ListN.{get_elem?}
-use Rattle.hm_model.specs.declared.entry.Entry.{Entry}
-use Rattle.hm_moves.specs.declared.part.Part.{Part}
-use Rattle.hm_moves.specs.declared.part.View.{View}
-use Rattle.hm_moves.specs.After.{view}
-use Rattle.hm_moves.specs.Good.{Carries}
+use Rattle.hm_moves.proofs.Words.{some, get_elem?, Entry, Part, View, view, Carries}
 use Rattle.hm_moves.proofs.Places.{at_set}
 
 -- `seen` is what the seat `id` has seen afterwards, and `new` what its caller p at a place became

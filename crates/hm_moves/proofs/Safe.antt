@@ -1,16 +1,6 @@
 -- A fresh machine leads to safe ones alone.
 use Rattle.std.proofs.Common.{◌≤◌, ℕ, zero, suc, sym, subst, arith}
-use Rattle.hm_model.specs.declared.entry.Entry.{Entry}
-use Rattle.hm_model.specs.Store.{PlainStore}
-use Rattle.hm_model.specs.History.{store_of, opening_of, starting_count, IsSizedStart}
-use Rattle.hm_model.specs.Lawful.{UsageLaws}
-use Rattle.hm_moves.specs.declared.part.Known.{Known}
-use Rattle.hm_moves.specs.declared.part.Site.{Site}
-use Rattle.hm_moves.specs.Chain.{Index, IsLinked, link_of}
-use Rattle.hm_moves.specs.Places.{Heap}
-use Rattle.hm_moves.specs.Good.{Core, Good}
-use Rattle.hm_moves.specs.Fresh.{IsFreshCore}
-use Rattle.hm_moves.specs.Safe.{IsForward, IsSafe, Leads, here, moved, let_go, cut, met}
+use Rattle.hm_moves.proofs.Words.{Entry, PlainStore, store_of, opening_of, starting_count, IsSizedStart, UsageLaws, Known, Site, Index, IsLinked, link_of, Heap, Core, Good, IsFreshCore, IsForward, IsSafe, Leads, here, moved, let_go, cut, met}
 use Rattle.hm_moves.proofs.Steps.{good_step}
 use Rattle.hm_moves.proofs.Seats.{good_split, good_join}
 use Rattle.hm_moves.proofs.Fresh.{good_fresh}

@@ -1,16 +1,6 @@
 -- A seat that is cut in two, or takes in another, leaves a good machine.
 use Rattle.std.proofs.Common.{◌≡◌, ◌≢◌, ◌⊎◌, ℕ, ◌+◌, ◌<◌, List, [], ◌++◌, length, set, refl, sym, ap, ◌∙◌, subst, arith, ⊎_elim, inl, inr, length-set, append-nil}
-use mathlib.Core.Option.{some, some-ne-none}
-use lib.ListN.{get_elem?}
-use Rattle.hm_model.specs.declared.entry.Entry.{Entry}
-use Rattle.hm_model.specs.Store.{PlainStore}
-use Rattle.hm_model.specs.History.{calls_of, opening_of}
-use Rattle.hm_model.proofs.HistoryFacts.{calls_of-append}
-use Rattle.hm_moves.specs.declared.part.Site.{Site}
-use Rattle.hm_moves.specs.declared.part.Part.{Part}
-use Rattle.hm_moves.specs.declared.part.View.{View}
-use Rattle.hm_moves.specs.After.{view}
-use Rattle.hm_moves.specs.Good.{Begins, AreBelow, PartIsGood, Core, Good, Carries, split, joined, joined_view, longer, spent_view}
+use Rattle.hm_moves.proofs.Words.{some, some-ne-none, get_elem?, Entry, PlainStore, calls_of, opening_of, calls_of-append, Site, Part, View, view, Begins, AreBelow, PartIsGood, Core, Good, Carries, split, joined, joined_view, longer, spent_view}
 use Rattle.hm_moves.proofs.Histories.{below_later, none_made, nothing_more, begins_on, begins_longer, left_begins, right_begins, calls_between}
 use Rattle.hm_moves.proofs.Places.{at_set, at_longer, at_later, at_below, at_end, at_either, set_here, set_else}
 

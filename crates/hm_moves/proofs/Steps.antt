@@ -1,25 +1,6 @@
 -- A move of a seat's caller leaves a good machine, and what it tells the caller is so.
 use Rattle.std.proofs.Common.{◌≡◌, ◌≢◌, ℕ, List, slice_index, Option, IfSome, refl, sym, ap, subst}
-use mathlib.Core.Option.{some}
-use lib.ListN.{get_elem?}
-use Rattle.hm_model.specs.declared.entry.Entry.{Entry}
-use Rattle.hm_model.specs.declared.object.Name.{Name}
-use Rattle.hm_model.specs.Store.{PlainStore, IsThere}
-use Rattle.hm_model.specs.Effect.{Stands}
-use Rattle.hm_model.specs.History.{store_of}
-use Rattle.hm_model.specs.Lawful.{UsageLaws}
-use Rattle.hm_moves.specs.declared.part.Known.{Known}
-use Rattle.hm_moves.specs.declared.part.Site.{Site}
-use Rattle.hm_moves.specs.declared.part.Part.{Part}
-use Rattle.hm_moves.specs.declared.part.View.{View}
-use Rattle.hm_moves.specs.declared.moving.Move.{Move}
-use Rattle.hm_moves.specs.Places.{Heap, IsFit}
-use Rattle.hm_moves.specs.Chain.{IsPublished}
-use Rattle.hm_moves.specs.Acts.{word_of, entry_of, finds, listed, publishes}
-use Rattle.hm_moves.specs.After.{heap_after, part_after, view_after, seen_after}
-use Rattle.hm_moves.specs.Allowed.{IsLawfulMove, done_seen}
-use Rattle.hm_moves.specs.Good.{Begins, HeapIsGood, PartIsGood, Core, Good, Carries, applied}
-use Rattle.hm_moves.specs.Told.{Told}
+use Rattle.hm_moves.proofs.Words.{some, get_elem?, Entry, Name, PlainStore, IsThere, Stands, store_of, UsageLaws, Known, Site, Part, View, Move, Heap, IsFit, IsPublished, word_of, entry_of, finds, listed, publishes, heap_after, part_after, view_after, seen_after, IsLawfulMove, done_seen, Begins, HeapIsGood, PartIsGood, Core, Good, Carries, applied, Told}
 use Rattle.hm_moves.proofs.Histories.{IsBy, begins_more, others_only}
 use Rattle.hm_moves.proofs.Placed.{rank_small, published_once}
 use Rattle.hm_moves.proofs.Heaps.{heap_step}

@@ -1,7 +1,5 @@
 use Rattle.std.proofs.Common.{ap, ◌∙◌, subst}
-use Rattle.hm_cells.specs.Calls.{Meets, NoteFacts}
-use Rattle.hm_cells.specs.Facts.{Facts}
-use Rattle.hm_cells.specs.Shows.{facts_of}
+use Rattle.hm_cells.proofs.Words.{Meets, NoteFacts, Facts, facts_of}
 use Rattle.hm_cells.proofs.Rested.{meets_now, met_seated, own_met}
 use Rattle.hm_cells.proofs.notes.meet.Goals as goal
 

@@ -1,6 +1,5 @@
 use Rattle.std.proofs.Common.{ap, ◌∙◌}
-use Rattle.hm_cells.specs.Calls.{rested}
-use Rattle.hm_cells.specs.Facts.{Facts, names_at}
+use Rattle.hm_cells.proofs.Words.{rested, Facts, names_at}
 use Rattle.hm_cells.proofs.Rested.{split_rests}
 use Rattle.hm_cells.proofs.notes.split.Goals as goal
 

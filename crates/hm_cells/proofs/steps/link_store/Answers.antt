@@ -1,9 +1,5 @@
 use Rattle.std.proofs.Common.{rules, ◌≡◌, ◌∙◌, ◌+◌, ℕ, Some, ap, sym, subst}
-use Rattle.hm_shape.specs.Words.{naming_word}
-use Rattle.hm_cells.specs.Facts.{Facts}
-use Rattle.hm_cells.specs.Calls.{Takes}
-use Rattle.hm_cells.specs.Grips.{Gripped}
-use Rattle.hm_cells.specs.Shows.{facts_of}
+use Rattle.hm_cells.proofs.Words.{naming_word, Facts, Takes, Gripped, facts_of}
 use Rattle.hm_cells.proofs.Wanting.{HasLengths}
 use Rattle.hm_cells.proofs.Loading.{load_fit, load_version}
 use Rattle.hm_cells.proofs.Linking.{link_store_ready, made_now, later_now}

@@ -1,9 +1,5 @@
 use Rattle.std.proofs.Common.{Some}
-use Rattle.hm_moves.specs.declared.moving.Act.TheVariants.{Looks, Builds}
-use Rattle.hm_moves.specs.declared.moving.Build.TheVariants.{LinkStore}
-use Rattle.hm_cells.specs.Facts.{known_at}
-use Rattle.hm_cells.specs.Calls.{linked, move_by, stored}
-use Rattle.hm_cells.specs.Shows.{facts_of}
+use Rattle.hm_cells.proofs.Words.{Looks, Builds, LinkStore, known_at, linked, move_by, stored, facts_of}
 use Rattle.hm_cells.proofs.steps.link_store.Given as goal
 
 abbrev pub ghosts-exchange : goal.ghosts-exchange

@@ -1,10 +1,5 @@
 use Rattle.std.proofs.Common.{◌∙◌, ap, subst, arith}
-use Rattle.hm_moves.specs.Acts.{field_look}
-use Rattle.hm_moves.specs.declared.moving.Act.TheVariants.{Looks}
-use Rattle.hm_cells.specs.Facts.{Facts, known_at}
-use Rattle.hm_cells.specs.Calls.{Takes}
-use Rattle.hm_cells.specs.Grips.{Gripped}
-use Rattle.hm_cells.specs.Shows.{facts_of}
+use Rattle.hm_cells.proofs.Words.{field_look, Looks, Facts, known_at, Takes, Gripped, facts_of}
 use Rattle.hm_cells.proofs.Loading.{load_fit, load_version, field_ready, field_now}
 use Rattle.hm_cells.proofs.steps.load_field.Goals as goal
 

@@ -1,8 +1,4 @@
-use Rattle.hm_moves.specs.Acts.{field_look}
-use Rattle.hm_cells.specs.Facts.{known_at}
-use Rattle.hm_cells.specs.Calls.{move_by}
-use Rattle.hm_cells.specs.Shows.{facts_of}
-use Rattle.hm_moves.specs.declared.moving.Act.TheVariants.{Looks}
+use Rattle.hm_cells.proofs.Words.{field_look, known_at, move_by, facts_of, Looks}
 use Rattle.hm_cells.proofs.steps.load_field.Given as goal
 
 abbrev pub ghosts-load : goal.ghosts-load

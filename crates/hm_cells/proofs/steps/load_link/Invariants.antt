@@ -1,8 +1,4 @@
-use Rattle.hm_moves.specs.declared.moving.Act.TheVariants.{Looks, Builds}
-use Rattle.hm_moves.specs.declared.moving.Look.TheVariants.{LoadLink}
-use Rattle.hm_cells.specs.Facts.{known_at}
-use Rattle.hm_cells.specs.Calls.{move_by, wanted}
-use Rattle.hm_cells.specs.Shows.{facts_of}
+use Rattle.hm_cells.proofs.Words.{Looks, Builds, LoadLink, known_at, move_by, wanted, facts_of}
 use Rattle.hm_cells.proofs.steps.load_link.Given as goal
 
 abbrev pub ghosts-load : goal.ghosts-load

@@ -1,10 +1,5 @@
 use Rattle.std.proofs.Common.{◌+◌, ◌∙◌, refl, ap, subst}
-use Rattle.hm_moves.specs.declared.moving.Act.TheVariants.{Looks, Builds}
-use Rattle.hm_moves.specs.declared.moving.Build.TheVariants.{Publish}
-use Rattle.hm_cells.specs.Facts.{Facts}
-use Rattle.hm_cells.specs.Calls.{Takes, drafted}
-use Rattle.hm_cells.specs.Grips.{Gripped}
-use Rattle.hm_cells.specs.Shows.{facts_of}
+use Rattle.hm_cells.proofs.Words.{Looks, Builds, Publish, Facts, Takes, drafted, Gripped, facts_of}
 use Rattle.hm_cells.proofs.Storing.{first_ready, first_now}
 use Rattle.hm_cells.proofs.steps.publish.Goals as goal
 

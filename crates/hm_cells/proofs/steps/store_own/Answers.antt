@@ -1,9 +1,5 @@
 use Rattle.std.proofs.Common.{refl, subst, arith}
-use Rattle.hm_moves.specs.declared.moving.Act.TheVariants.{Looks, Builds}
-use Rattle.hm_moves.specs.declared.moving.Build.TheVariants.{StoreOwn}
-use Rattle.hm_cells.specs.Facts.{Facts}
-use Rattle.hm_cells.specs.Calls.{Takes}
-use Rattle.hm_cells.specs.Shows.{facts_of}
+use Rattle.hm_cells.proofs.Words.{Looks, Builds, StoreOwn, Facts, Takes, facts_of}
 use Rattle.hm_cells.proofs.Storing.{own_ready, own_now}
 use Rattle.hm_cells.proofs.steps.store_own.Goals as goal
 

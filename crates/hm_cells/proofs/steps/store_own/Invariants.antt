@@ -1,7 +1,4 @@
-use Rattle.hm_moves.specs.declared.moving.Act.TheVariants.{Looks, Builds}
-use Rattle.hm_moves.specs.declared.moving.Build.TheVariants.{StoreOwn}
-use Rattle.hm_cells.specs.Calls.{move_by}
-use Rattle.hm_cells.specs.Shows.{facts_of}
+use Rattle.hm_cells.proofs.Words.{Looks, Builds, StoreOwn, move_by, facts_of}
 use Rattle.hm_cells.proofs.steps.store_own.Given as goal
 
 abbrev pub ghosts-store : goal.ghosts-store

@@ -11,7 +11,7 @@ loop-i-preserved g c =
     let new = c.store_own.new.pass in
     record {
       fits = fits_still (λ _ _. Unit {0}) (λ _ _ _. Unit {0}) l.pass new
-          (StoreOwn l.i 0) 0 c.args.cells.now e.took
+          (Builds (StoreOwn l.i 0)) 0 c.args.cells.now e.took
           l.invariant.fits;
       rest = rest_still (λ _ _. Unit {0}) (λ _ _ _. Unit {0}) l.pass new l.i 0 l.invariant.sound e.sound
           e.took

@@ -1,11 +1,7 @@
 -- Behind what is laid come words of 0.
 use Rattle.std.proofs.Common.{◌≡◌, ◌++◌, ◌-◌, List, ℕ, length, replicate, take, sym, ap, ◌∙◌, subst, rules}
-use Rattle.std.specs.List.{flat_map}
+use Rattle.hm_moves.proofs.Words.{flat_map, take_all, word_count, all_known, AreFirst, known_words, laid_words}
 use Rattle.std.specs.Vec.{vec_len}
-use Rattle.std.proofs.lemmas.List.{take_all}
-use Rattle.hm_shape.specs.Words.{word_count}
-use Rattle.hm_moves.specs.Fresh.{all_known}
-use Rattle.hm_moves.specs.FirstWords.{AreFirst, known_words, laid_words}
 use Rattle.hm_moves.proofs.FirstWords.{first_are, laid_fits}
 use Rattle.hm_moves.proofs.starting.first_words.Goals as goal
 

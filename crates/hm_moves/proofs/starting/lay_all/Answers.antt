@@ -1,6 +1,6 @@
 -- The side objects are laid one after another, then the common object.
 use Rattle.std.proofs.Common.{◌≡◌, ◌∷◌, [], List, ℕ, Option, length, OnOk, sym, subst, rules}
-use Rattle.hm_model.specs.Store.{Numbers}
+use Rattle.hm_moves.proofs.Words.{Numbers}
 use Rattle.hm_moves.proofs.FirstWords.{AreLaid, all_laid, four_sides, none_laid, one_laid}
 use Rattle.hm_moves.proofs.starting.lay_all.Goals as goal
 

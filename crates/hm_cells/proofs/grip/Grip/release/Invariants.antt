@@ -1,5 +1,4 @@
-use Rattle.std.specs.Prelude.{unwrap_or}
-use Rattle.hm_cells.specs.Facts.{nothing_known, without_first}
+use Rattle.hm_cells.proofs.Words.{unwrap_or, nothing_known, without_first}
 use Rattle.hm_cells.proofs.grip.Grip.release.Given as goal
 
 abbrev pub ghosts-step : goal.ghosts-step

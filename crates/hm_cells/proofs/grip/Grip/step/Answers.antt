@@ -1,6 +1,5 @@
 use Rattle.std.proofs.Common.{refl}
-use Rattle.atomic_table.specs.Table.{keeps}
-use Rattle.hm_cells.specs.Grips.{handing}
+use Rattle.hm_cells.proofs.Words.{keeps, handing}
 use Rattle.hm_cells.proofs.grip.Grip.step.Goals as goal
 
 pub load-requires : goal.load-requires

@@ -1,5 +1,4 @@
-use Rattle.std.specs.Prelude.{◌++◌}
-use Rattle.std.specs.Option.{option_to_list}
+use Rattle.hm_cells.proofs.Words.{◌++◌, option_to_list}
 use Rattle.hm_cells.proofs.grip.Grip.take.Given as goal
 
 abbrev pub ghosts-step : goal.ghosts-step

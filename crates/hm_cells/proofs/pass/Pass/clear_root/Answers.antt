@@ -1,8 +1,5 @@
 use Rattle.std.proofs.Common.{◌<◌, length, None, sym, subst, arith}
-use Rattle.hm_model.specs.Sight.{SetsRoot}
-use Rattle.hm_cells.specs.Facts.{Facts, sight_of}
-use Rattle.hm_cells.specs.Grips.{Gripped}
-use Rattle.hm_cells.specs.Shows.{facts_of}
+use Rattle.hm_cells.proofs.Words.{SetsRoot, Facts, sight_of, Gripped, facts_of}
 use Rattle.hm_cells.proofs.Rooted.{sets_root}
 use Rattle.hm_cells.proofs.pass.Pass.clear_root.Goals as goal
 

@@ -1,9 +1,5 @@
 use Rattle.std.proofs.Common.{◌≡◌, ◌<◌, length, Option, ap, sym, ◌∙◌, subst, arith}
-use Rattle.hm_model.specs.declared.object.Name.{Name}
-use Rattle.hm_model.specs.Sight.{SetsRoot, root_of}
-use Rattle.hm_cells.specs.Facts.{Facts, place_name, sight_of}
-use Rattle.hm_cells.specs.Grips.{Gripped}
-use Rattle.hm_cells.specs.Shows.{facts_of}
+use Rattle.hm_cells.proofs.Words.{Name, SetsRoot, root_of, Facts, place_name, sight_of, Gripped, facts_of}
 use Rattle.hm_cells.proofs.Rooted.{name_place, sets_root}
 use Rattle.hm_cells.proofs.pass.Pass.copy_root.Goals as goal
 

@@ -1,8 +1,5 @@
 use Rattle.std.proofs.Common.{◌≡◌, ◌-◌, ℕ, [], Some, set, refl, sym, ap, ◌∙◌, arith}
-use Rattle.hm_shape.specs.declared.version.Version.{Version}
-use Rattle.hm_model.specs.History.{side_count}
-use Rattle.hm_cells.specs.Grips.{Gripped, site_of}
-use Rattle.hm_cells.specs.Making.{first_roots}
+use Rattle.hm_cells.proofs.Words.{Version, side_count, Gripped, site_of, first_roots}
 use Rattle.hm_cells.proofs.Opening.{sure_first}
 use Rattle.hm_cells.proofs.Fresh.{fresh_is, seated_fresh}
 use Rattle.hm_cells.proofs.pass.Pass.fresh.Goals as goal

@@ -1,7 +1,5 @@
 use Rattle.std.proofs.Common.{sym, subst}
-use Rattle.hm_cells.specs.Facts.{IsAmong}
-use Rattle.hm_cells.specs.Grips.{Gripped}
-use Rattle.hm_cells.specs.Shows.{IsSeated, facts_of}
+use Rattle.hm_cells.proofs.Words.{IsAmong, Gripped, IsSeated, facts_of}
 use Rattle.hm_cells.proofs.Rooted.{all_without}
 use Rattle.hm_cells.proofs.pass.Pass.release.Goals as goal
 

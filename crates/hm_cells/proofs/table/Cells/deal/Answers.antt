@@ -1,13 +1,5 @@
 use Rattle.std.proofs.Common.{◌≡◌, ℕ, suc, ◌+◌, ◌-◌, List, [], ◌∷◌, ◌++◌, sym, ap, ◌∙◌, arith}
-use Rattle.atomic_table.specs.Table.{Me}
-use Rattle.hm_model.specs.History.{opening_of}
-use Rattle.hm_moves.specs.declared.part.View.{View}
-use Rattle.hm_moves.specs.After.{view}
-use Rattle.hm_cells.specs.declared.knowledge.Knowledge.{Knowledge}
-use Rattle.hm_cells.specs.Grips.{site_of}
-use Rattle.hm_cells.specs.Facts.{Facts}
-use Rattle.hm_cells.specs.Shows.{knowledge}
-use Rattle.hm_cells.specs.Making.{back, front, fresh_pass, fresh_passes, newcomers}
+use Rattle.hm_cells.proofs.Words.{Me, opening_of, View, view, Knowledge, site_of, Facts, knowledge, back, front, fresh_pass, fresh_passes, newcomers}
 use Rattle.hm_cells.proofs.Dealt.{dealt, less_one, the_last}
 use Rattle.hm_cells.proofs.table.Cells.deal.Goals as goal
 

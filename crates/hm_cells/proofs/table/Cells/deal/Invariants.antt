@@ -1,9 +1,4 @@
-use Rattle.std.specs.Prelude.{◌≡◌, ◌-◌, ◌++◌, []}
-use Rattle.hm_moves.specs.After.{view}
-use Rattle.hm_model.specs.History.{opening_of}
-use Rattle.hm_cells.specs.Grips.{site_of}
-use Rattle.hm_cells.specs.Shows.{knowledge}
-use Rattle.hm_cells.specs.Making.{fresh_passes, newcomers}
+use Rattle.hm_cells.proofs.Words.{◌≡◌, ◌-◌, ◌++◌, [], view, opening_of, site_of, knowledge, fresh_passes, newcomers}
 use Rattle.hm_cells.proofs.table.Cells.deal.Given as goal
 
 abbrev pub invariant-loop-k : goal.invariant-loop-k

@@ -1,9 +1,5 @@
 use Rattle.std.proofs.Common.{◌≡◌, ◌<◌, ℕ, Some, arith, sym, ap, ◌∙◌, subst}
-use Rattle.hm_shape.specs.declared.shape.Shape.{Shape}
-use Rattle.hm_shape.specs.Words.{word_at, naming_word}
-use Rattle.hm_cells.specs.Facts.{Made}
-use Rattle.hm_cells.specs.Grips.{site_of}
-use Rattle.hm_cells.specs.Shows.{IsReady, Exchanges}
+use Rattle.hm_cells.proofs.Words.{Shape, word_at, naming_word, Made, site_of, IsReady, Exchanges}
 use Rattle.hm_cells.proofs.Refines.{exchange_as}
 use Rattle.hm_cells.proofs.table.Cells.exchange.Goals as goal
 

@@ -1,9 +1,5 @@
 use Rattle.std.proofs.Common.{◌≡◌, ◌<◌, ℕ, arith, sym, ap, ◌∙◌, subst}
-use Rattle.hm_shape.specs.declared.shape.Shape.{Shape}
-use Rattle.hm_shape.specs.Words.{word_at}
-use Rattle.hm_cells.specs.Facts.{Made}
-use Rattle.hm_cells.specs.Grips.{site_of}
-use Rattle.hm_cells.specs.Shows.{IsReady, Loads}
+use Rattle.hm_cells.proofs.Words.{Shape, word_at, Made, site_of, IsReady, Loads}
 use Rattle.hm_cells.proofs.Refines.{load_as}
 use Rattle.hm_cells.proofs.table.Cells.load.Goals as goal
 

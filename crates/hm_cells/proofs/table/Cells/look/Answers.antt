@@ -1,5 +1,5 @@
 use Rattle.std.proofs.Common.{◌<◌, arith, sym, ap, ◌∙◌}
-use Rattle.hm_cells.specs.Facts.{Made}
+use Rattle.hm_cells.proofs.Words.{Made}
 use Rattle.hm_cells.proofs.Refines.{look_as}
 use Rattle.hm_cells.proofs.table.Cells.look.Goals as goal
 

@@ -1,8 +1,5 @@
 use Rattle.std.proofs.Common.{◌≡◌, List, All, sym, subst}
-use Rattle.hm_model.specs.Sight.{IsFresh}
-use Rattle.hm_moves.specs.declared.part.Site.{Site}
-use Rattle.hm_cells.specs.Facts.{Facts, Fits, IsAtRest, Made, sight_of}
-use Rattle.hm_cells.specs.Making.{fresh_passes}
+use Rattle.hm_cells.proofs.Words.{IsFresh, Site, Facts, Fits, IsAtRest, Made, sight_of, fresh_passes}
 use Rattle.hm_cells.proofs.Dealt.{all_fit, all_fresh, all_rest}
 use Rattle.hm_cells.proofs.table.Cells.make.Goals as goal
 

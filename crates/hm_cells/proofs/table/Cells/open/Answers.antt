@@ -1,4 +1,4 @@
-use Rattle.hm_cells.specs.Grips.{site_of}
+use Rattle.hm_cells.proofs.Words.{site_of}
 use Rattle.hm_cells.proofs.Opening.{opens}
 use Rattle.hm_cells.proofs.table.Cells.open.Goals as goal
 
