@@ -80,8 +80,8 @@ module _ {U : Type 0} (lawful : U → PlainStore → Type 0) (allowed : U → Pl
     fit (Some n) h = after.sure.fit n (inl h)
 
     small : x ≤ 2 ^ 32
-    small = small_reference t.part.site.shape (done_seen t.part) x took.found (reference_at (contents_at s v) i) took.what
-        (fit took.found took.holds)
+    small = small_reference t.part.site.shape (done_seen t.part) x took.found (reference_at (contents_at s v) i)
+        took.what (fit took.found took.holds)
 
     module _ (named : Option Version) (names : x ≤ 2 ^ 32 → naming_word named ≡ x) where
       hand : t.hand ≡ s.hand ++ option_to_list named
