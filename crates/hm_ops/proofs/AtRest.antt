@@ -1,12 +1,11 @@
 -- What stays at rest between two calls.
-use Rattle.std.proofs.Common.{◌≡◌, ◌≤◌, ℕ, List, length, Option, Some, None, refl, sym, subst, arith}
+use Rattle.std.proofs.Common.{◌≡◌, ◌≤◌, ℕ, List, length, Option, Some, None, sym, subst, arith}
 use Rattle.std.proofs.lemmas.List.Sums.{length-filter}
 use Rattle.hm_model.specs.declared.entry.Entry.{Entry}
 use Rattle.hm_moves.specs.declared.part.Known.{Known}
 use Rattle.hm_moves.specs.After.{without}
 use Rattle.hm_cells.specs.Facts.{Facts, Made, first_idle}
 use Rattle.hm_cells.specs.Calls.{rested}
-use Rattle.hm_cells.specs.Making.{fresh_pass}
 use Rattle.hm_ops.specs.Resting.{IsResting}
 
 -- letting go leaves no more
@@ -25,11 +24,4 @@ module _ {U : Type 0} where
       few = let less = without_fewer s.part.hands.held (first_idle s.roots s.hand s.part.hands.held) in
           omega (arith, k.rest.few);
     };
-  }
-
-  -- the pass of a caller of a fresh heap
-  pub fresh_rests : (m : Made U) (q : ℕ) → IsResting (fresh_pass m.table m.site q) m
-  fresh_rests m q = record {
-    fits = record { cells = refl; site = refl };
-    rest = record { hand = refl; few = omega arith };
   }

@@ -42,6 +42,7 @@ module _ {U : Type 0} (lawful : U → PlainStore → Type 0) (allowed : U → Pl
         copies.known v (inl (rooted.0, ap (λ (l : Roots). get_or l rooted.0 None) reads.roots ∙ rooted.1))
         ∙ reads.known
 
+    -- the copy is whole, as a conditional store with the stamp that was read wants it
     pub copy_whole : stamp ≡ (contents_at s v).stamp
         → IsWholeCopy t.part (with_all (names_of (sight_of t) refs) numbers (known_at t v).contents)
     copy_whole equal =
@@ -51,6 +52,7 @@ module _ {U : Type 0} (lawful : U → PlainStore → Type 0) (allowed : U → Pl
         subst (IsWholeCopy t.part)
         (λ i. record { stamp = e i + 1; refs = names_of (same i) refs; numbers = numbers }) copies.whole
 
+    -- a conditional store that was allowed before is allowed still
     pub copy_may : MayEnter lawful allowed (sight_of s) (tried_at s v stamp refs numbers Stored)
         → MayEnter lawful allowed (sight_of t) (tried_at t v stamp refs numbers Stored)
     copy_may may =
@@ -78,6 +80,7 @@ module _ {U : Type 0} (lawful : U → PlainStore → Type 0) (allowed : U → Pl
     named : root_of (sight_of p) at ≡ Some (known_at p v).name
     named = come_named lawful allowed m s p at v come
 
+    -- the conditional store is allowed there, where the call was
     pub may_try : MayStoreIf lawful allowed (sight_of s) at stamp refs numbers
         → MayEnter lawful allowed (sight_of p) (tried_at p v stamp refs numbers Stored)
     may_try may =
@@ -85,6 +88,7 @@ module _ {U : Type 0} (lawful : U → PlainStore → Type 0) (allowed : U → Pl
         (known_at p v).name named
 
     module _ (t : Facts U) where
+      -- where an attempt stored, the call stores all fields
       pub stores_all : Ends lawful allowed m p (tried_at p v stamp refs numbers Stored) 1 t
           → StoresAll lawful allowed (sight_of s) (sight_of t) at stamp refs numbers
       stores_all ends =
@@ -92,6 +96,7 @@ module _ {U : Type 0} (lawful : U → PlainStore → Type 0) (allowed : U → Pl
           (stores_all_enters lawful allowed (sight_of p) (sight_of t) at stamp refs numbers
           (known_at p v).name named ends.entry ends.names ends.room)
 
+      -- where an attempt found another stamp, the call answers that
       pub finds_changed : (found : ℕ)
           → Ends lawful allowed m p (tried_at p v stamp refs numbers (Changed found)) 0 t
           → FindsChanged lawful allowed (sight_of s) (sight_of t) at stamp refs numbers found

@@ -49,6 +49,7 @@ module _ {U : Type 0} (lawful : U → PlainStore → Type 0) (allowed : U → Pl
     names : (sight_of s3).roots ≡ (sight_of s).roots
     names = ap (λ (c : Sight U). c.roots) same ∙ walks.names
 
+    -- the answer is what the last version holds, and the hand names its references
     pub fetches_all : (stamp : ℕ) (numbers : Numbers) (set : List Bool) → stamp ≡ (contents_at s1 v).stamp
         → numbers ≡ (contents_at s2 v).numbers → set ≡ map is_some (contents_at s3 v).refs
         → FetchesAll lawful allowed (sight_of s) (sight_of s4) from hand

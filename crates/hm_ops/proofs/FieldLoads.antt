@@ -56,10 +56,12 @@ module _ {U : Type 0} (lawful : U → PlainStore → Type 0) (allowed : U → Pl
         took_number : Takes lawful allowed s (Looks (LoadNumber (known_at s v) i)) x t
         took_number = subst (λ (l : Look). Takes lawful allowed s (Looks l) x t) (number_look (known_at s v) i low) took
 
+        -- a load of a number shows nothing to others
         pub number_read : IsRooted s v → Reads lawful allowed m s v t
         number_read rooted = reads_plain (Looks (LoadNumber (known_at s v) i)) took_number rooted refl refl
             (λ z. z.what.1)
 
+        -- it finds that number
         pub number_is : x ≡ slice_index (contents_at s v).numbers i
         number_is = took_number.what.0
 

@@ -35,6 +35,7 @@ module _ {U : Type 0} (lawful : U → PlainStore → Type 0) (allowed : U → Pl
     named : root_of (sight_of p) at ≡ Some (known_at p v).name
     named = come_named lawful allowed m s p at v come
 
+    -- the store is allowed there, where the call was
     pub may_store : MayStore lawful allowed (sight_of s) at (field_of s field)
         → MayEnter lawful allowed (sight_of p) (stored p (known_at p v) (Store field))
     may_store may =
@@ -44,6 +45,7 @@ module _ {U : Type 0} (lawful : U → PlainStore → Type 0) (allowed : U → Pl
         (subst (λ (c : Sight U). MayStore lawful allowed c at (field_of s field)) (sym same) may
         (known_at p v).name named)
 
+    -- where an attempt stored, the call stores the field
     pub stores : (t : Facts U) → Ends lawful allowed m p (stored p (known_at p v) (Store field)) 1 t
         → Stores lawful allowed (sight_of s) (sight_of t) at (field_of s field)
     stores t ends =

@@ -10,7 +10,6 @@ pub mod PlacedReferences
 -- words of the caller's next version, as they are written, and as a whole draft or copy
 pub mod WrittenWords
 pub mod WholeDrafts
-pub mod WholeCopies
 pub mod ChangedCopies
 -- loads and exchanges of links
 pub mod LinkSteps

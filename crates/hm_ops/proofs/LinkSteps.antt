@@ -30,7 +30,7 @@ use Rattle.hm_ops.proofs.OneStep.{keeps_none, room_kept, roots_kept, same_sight,
 use Rattle.hm_ops.proofs.Settled.{HasTaken, OnceSettled, found_taken, new_taken, place_below, root_named, settled_keeps, settled_same, taken_hand}
 
 -- a link of 0 names none
-pub link_none : (at : Known) (found : Option Known) → IsLink at 0 found → found ≡ None
+link_none : (at : Known) (found : Option Known) → IsLink at 0 found → found ≡ None
 link_none at None h = refl
 link_none at (Some k) h = absurd (let e = h.0 in omega arith)
 
@@ -64,10 +64,11 @@ where_more (Some a) n = ap (where_zero (Some a)) (add-one n)
 module _ {U : Type 0} (lawful : U → PlainStore → Type 0) (allowed : U → PlainStore → Entry → Type 0)
     (m : Made U) where
   -- the version at a root place is held
-  pub placed_held : (s : Facts U) (r : ℕ) (v : Version) → Keeps lawful allowed s m → IsAtPlace s r v →
+  placed_held : (s : Facts U) (r : ℕ) (v : Version) → Keeps lawful allowed s m → IsAtPlace s r v →
       IsHeldAt s v
   placed_held s r v k at = kept_held lawful allowed s v k.sound (inl (r, at))
 
+  -- and may be looked into
   pub placed_look : (s : Facts U) (r : ℕ) (v : Version) → Keeps lawful allowed s m → IsAtPlace s r v →
       IsLookable s v
   placed_look s r v k at = held_lookable lawful allowed s v (placed_held s r v k at)
@@ -139,12 +140,14 @@ module _ {U : Type 0} (lawful : U → PlainStore → Type 0) (allowed : U → Pl
             };
           }
 
+    -- so does a load of a link
     pub look_follows : (want : Option Entry) (next : Version)
         → Takes lawful allowed s (Looks (LoadLink (known_at s v) want)) (next.0 + 1) t
         → OnceSettled t r next (GoesOn lawful allowed m s r v next)
     look_follows want next took =
         follows (Looks (LoadLink (known_at s v) want)) next took took.what (where_more want next.0) refl
 
+    -- and an exchange that found one
     pub exchange_follows : (fresh : Known) (entry : Option Entry) (next : Version)
         → Takes lawful allowed s (Builds (LinkStore (known_at s v) fresh entry)) (next.0 + 1) t
         → OnceSettled t r next (GoesOn lawful allowed m s r v next)

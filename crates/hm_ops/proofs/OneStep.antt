@@ -1,5 +1,5 @@
--- What a move leaves of a pass that others see.
-use Rattle.std.proofs.Common.{◌≡◌, ◌≤◌, ◌+◌, ◌-◌, ℕ, List, [], ◌∷◌, ◌++◌, length, map, append-nil, Option, Some, None, refl, sym, ap, ◌∙◌, subst, arith}
+-- What one step leaves of a pass.
+use Rattle.std.proofs.Common.{◌≡◌, ◌≤◌, ◌+◌, ◌-◌, ℕ, List, [], ◌++◌, length, map, append-nil, Option, None, sym, ap, ◌∙◌, subst, arith}
 use Rattle.hm_shape.specs.declared.version.Version.{Version}
 use Rattle.hm_model.specs.declared.entry.Entry.{Entry}
 use Rattle.hm_model.specs.Store.{PlainStore}
@@ -13,7 +13,7 @@ use Rattle.hm_cells.proofs.Stepped.{held_few}
 use Rattle.hm_ops.specs.Resting.{Keeps, Works}
 
 module _ {U : Type 0} (lawful : U → PlainStore → Type 0) (allowed : U → PlainStore → Entry → Type 0) where
-  -- a pass at rest may begin to work, and rests again where nothing is in hand
+  -- a pass at rest may begin to work
   pub rest_works : (s : Facts U) (m : Made U) → Keeps lawful allowed s m → Works lawful allowed s m
   rest_works s m k = record {
     fits = k.resting.fits;
@@ -22,6 +22,7 @@ module _ {U : Type 0} (lawful : U → PlainStore → Type 0) (allowed : U → Pl
     sound = k.sound;
   }
 
+  -- it rests again where nothing is in hand
   pub work_rests : (s : Facts U) (m : Made U) → Works lawful allowed s m → s.hand ≡ []
       → Keeps lawful allowed s m
   work_rests s m k empty = record {
@@ -30,33 +31,24 @@ module _ {U : Type 0} (lawful : U → PlainStore → Type 0) (allowed : U → Pl
   }
 
   module _ (s t : Facts U) (act : Act) (x : ℕ) (took : Takes lawful allowed s act x t) where
+    -- it is of the same heap
     pub site_kept : t.part.site ≡ s.part.site
     site_kept = ap (λ (f : Facts U). f.part.site) took.is
 
-    pub number_kept : t.part.number ≡ s.part.number
+    -- the same caller
+    number_kept : t.part.number ≡ s.part.number
     number_kept = ap (λ (f : Facts U). f.part.number) took.is
 
+    -- and its root places name what they named
     pub roots_kept : t.roots ≡ s.roots
     roots_kept = ap (λ (f : Facts U). f.roots) took.is
 
     -- it is still a pass of the cells
-    pub fits_kept : (m : Made U) → Fits s m → Fits t m
+    fits_kept : (m : Made U) → Fits s m → Fits t m
     fits_kept m f = record {
       cells = ap (λ (f : Facts U). f.cells) took.is ∙ f.cells;
       site = site_kept ∙ f.site;
     }
-
-    -- few are held still
-    few_working : length s.hand ≤ 4 → length s.part.hands.held ≤ 400 → IsSound lawful allowed s
-        → IsSound lawful allowed t → length t.part.hands.held ≤ 400
-    few_working hand few sound after =
-        held_few lawful allowed s t act x sound after took 400 few (omega arith)
-
-    pub few_kept : (m : Made U) → Keeps lawful allowed s m → IsSound lawful allowed t → length
-        t.part.hands.held ≤ 400
-    few_kept m k after =
-        let none : length s.hand ≡ 0 = ap (λ (l : List Version). length l) k.resting.rest.hand in
-        few_working (omega arith) k.resting.rest.few k.sound after
 
     -- what is in hand
     pub hand_taken : (found new : Option Known) → s.hand ≡ [] → took.found ≡ found → publishes act x ≡ new
@@ -72,48 +64,39 @@ module _ {U : Type 0} (lawful : U → PlainStore → Type 0) (allowed : U → Pl
         ∙ ((λ i. s.hand ++ map (λ k. k.version) (listed (none i) ++ listed (nothing i)))
         ∙ append-nil s.hand)
 
-    -- and the pass at work
-    pub works_none : (m : Made U) → Works lawful allowed s m → IsSound lawful allowed t → took.found ≡ None
-        → publishes act x ≡ None → Works lawful allowed t m
-    works_none m k after none nothing = record {
-      fits = fits_kept m k.fits;
-      hand = subst (λ (l : List Version). length l ≤ 4) (sym (hand_kept none nothing)) k.hand;
-      few = few_working k.hand k.few k.sound after;
-      sound = after;
-    }
-
-    -- so does a move that takes one version there, where the hand has place
+    -- a move that takes one version there keeps the pass at work, where the hand has place
     pub works_one : (m : Made U) → Works lawful allowed s m → IsSound lawful allowed t → length t.hand ≤ 4
         → Works lawful allowed t m
     works_one m k after hand = record {
       fits = fits_kept m k.fits;
       hand = hand;
-      few = few_working k.hand k.few k.sound after;
+      few = let few = k.hand in
+          held_few lawful allowed s t act x k.sound after took 400 k.few (omega arith);
       sound = after;
     }
 
-    -- a move that takes nothing into the hand keeps the pass at rest
+    -- so does one that takes nothing
+    pub works_none : (m : Made U) → Works lawful allowed s m → IsSound lawful allowed t → took.found ≡ None
+        → publishes act x ≡ None → Works lawful allowed t m
+    works_none m k after none nothing =
+        works_one m k after (subst (λ (l : List Version). length l ≤ 4) (sym (hand_kept none nothing)) k.hand)
+
+    -- and that keeps the pass at rest
     pub keeps_none : (m : Made U) → Keeps lawful allowed s m → IsSound lawful allowed t → took.found ≡ None
         → publishes act x ≡ None → Keeps lawful allowed t m
-    keeps_none m k after none nothing = record {
-      resting = record {
-        fits = fits_kept m k.resting.fits;
-        rest = record {
-          hand = hand_taken None None k.resting.rest.hand none nothing;
-          few = few_kept m k after;
-        };
-      };
-      sound = after;
-    }
+    keeps_none m k after none nothing =
+        work_rests t m (works_none m (rest_works s m k) after none nothing)
+        (hand_kept none nothing ∙ k.resting.rest.hand)
 
     -- one that publishes nothing leaves the room
-    pub used_kept : publishes act x ≡ None → t.part.draft.used ≡ s.part.draft.used
+    used_kept : publishes act x ≡ None → t.part.draft.used ≡ s.part.draft.used
     used_kept nothing =
         let same : t.part.draft.used ≡ s.part.draft.used + count_of (publishes act x) =
         ap (λ (f : Facts U). f.part.draft.used) took.is in
         let zero : count_of (publishes act x) ≡ 0 = ap count_of nothing in
         omega arith
 
+    -- so its room stays
     pub room_kept : publishes act x ≡ None → room_of t.part ≡ room_of s.part
     room_kept nothing = λ i. (site_kept i).shape.versions - used_kept nothing i
 
@@ -124,7 +107,7 @@ module _ {U : Type 0} (lawful : U → PlainStore → Type 0) (allowed : U → Pl
         ∙ ap (seen_after s.seen (s.seen ++ took.between)) no_entry in
         let mine : t.part.calls.mine ≡ s.part.calls.mine = ap (λ (f : Facts U). f.part.calls.mine) took.is
         ∙ (ap (λ (e : Option Entry). s.part.calls.mine ++ listed e) no_entry ∙ append-nil s.part.calls.mine) in
-        λ i. record {
+        λ i. record (sight_of s) {
           usage = (site_kept i).usage;
           start = (site_kept i).start;
           number = number_kept i;
@@ -132,10 +115,5 @@ module _ {U : Type 0} (lawful : U → PlainStore → Type 0) (allowed : U → Pl
           mine = mine i;
           roots = took.names i;
           room = room_kept nothing i;
-          copying = Rattle.std.proofs.Common.false;
           used = used_kept nothing i;
-          free = 0;
-          moves = 0;
-          tends = 0;
-          to_go = 0;
         }

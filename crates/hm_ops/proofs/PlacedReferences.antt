@@ -26,6 +26,7 @@ module _ {U : Type 0} (lawful : U → PlainStore → Type 0) (allowed : U → Pl
   module _ (s t u : Facts U) (v : Version) (hand : Root) (i : ℕ) (low : i < 4)
       (known : known_at t v ≡ known_at s v) (rooted : IsRootedOutside hand t v)
       (reads : ReadsInto lawful allowed m t v i (hand.0 + i) u) where
+    -- the version is still named outside the hand
     pub still_rooted : IsRootedOutside hand u v
     still_rooted = (
       rooted.0,
@@ -46,12 +47,14 @@ module _ {U : Type 0} (lawful : U → PlainStore → Type 0) (allowed : U → Pl
         (reads.names.here ∙ same_reference))
         (λ (ne : j ≢ i). reads.names.others (hand.0 + j) (λ e. ne (omega arith)) ∙ before j (omega arith))
 
+    -- the places outside what was filled name what they named
     pub others_more : ((k : ℕ) → (k < hand.0) ⊎ (hand.0 + i ≤ k) → name_at (names_at t) k ≡ name_at
         (names_at s) k)
         → (k : ℕ) → (k < hand.0) ⊎ (hand.0 + (i + 1) ≤ k) → name_at (names_at u) k ≡ name_at (names_at s) k
     others_more before k (inl a) = reads.names.others k (λ e. omega arith) ∙ before k (inl a)
     others_more before k (inr a) = reads.names.others k (λ e. omega arith) ∙ before k (inr (omega arith))
 
+    -- one more of the bits tells whether there is a reference
     pub set_more : (bits : List Bool) (bit : Bool) → length bits ≡ 4 → bit ≡ is_some
         (reference_at (contents_at t v) i)
         → ((j : ℕ) → j < i → get_or bits j false ≡ is_some (reference_at (contents_at s v) j))

@@ -80,8 +80,8 @@ module _ {U : Type 0} (lawful : U → PlainStore → Type 0) (allowed : U → Pl
     fit (Some n) h = after.sure.fit n (inl h)
 
     small : x ≤ 2 ^ 32
-    small = small_reference t.part.site.shape (done_seen t.part) x took.found (reference_at (contents_at s v) i) took.what
-        (fit took.found took.holds)
+    small = small_reference t.part.site.shape (done_seen t.part) x took.found (reference_at (contents_at s v) i)
+        took.what (fit took.found took.holds)
 
     module _ (named : Option Version) (names : x ≤ 2 ^ 32 → naming_word named ≡ x) where
       hand : t.hand ≡ s.hand ++ option_to_list named
@@ -116,6 +116,7 @@ module _ {U : Type 0} (lawful : U → PlainStore → Type 0) (allowed : U → Pl
               ap (place_name t.part.hands.held) (some w n.version (e ∙ h.0))
               ∙ (held_name t n.version held.0 ∙ (ap (λ (z : Known). Some z.name) held.1 ∙ sym h.1))
 
+      -- what the reference names is in hand
       pub takes_one : TakesReference s v i named t
       takes_one = record {
         stays = record {
@@ -127,6 +128,7 @@ module _ {U : Type 0} (lawful : U → PlainStore → Type 0) (allowed : U → Pl
         name = name;
       }
 
+      -- and the pass is at work, where the hand had room
       pub works_taken : length s.hand < 4 → Works lawful allowed t m
       works_taken few =
           let more : length t.hand ≡ length s.hand + length (option_to_list named) =
@@ -145,12 +147,14 @@ module _ {U : Type 0} (lawful : U → PlainStore → Type 0) (allowed : U → Pl
 
   -- several
   module _ (s : Facts U) (v : Version) (rest : Keeps lawful allowed s m) (rooted : IsRooted s v) where
+    -- what so many references name is in hand
     pub record TakesSome (vs : List (Option Version)) (t : Facts U) : Type 0 where
       pub stays : Stays s t
       pub hand : t.hand ≡ given vs
       pub names : (i : ℕ) → i < length vs
           → place_name t.part.hands.held (get_or vs i None) ≡ reference_at (contents_at s v) i
 
+    -- none at first
     pub takes_none : TakesSome [] s
     takes_none = record {
       stays = record {
@@ -179,6 +183,7 @@ module _ {U : Type 0} (lawful : U → PlainStore → Type 0) (allowed : U → Pl
       same_reference : (i : ℕ) → reference_at (contents_at t v) i ≡ reference_at (contents_at s v) i
       same_reference i = ap (λ (n : Known). reference_at n.contents i) (before.stays.known v (inl rooted)).1
 
+      -- one more by each load
       pub takes_more : TakesSome (vs ++ w ∷ []) u
       takes_more = record {
         stays = record {

@@ -13,7 +13,7 @@ use Rattle.hm_moves.specs.declared.moving.Act.TheVariants.{Builds}
 use Rattle.hm_moves.specs.declared.moving.Build.TheVariants.{StoreOwn}
 use Rattle.hm_moves.specs.After.{is_naming}
 use Rattle.hm_moves.specs.Allowed.{IsWritten, Names}
-use Rattle.hm_cells.specs.Facts.{Facts, Made, IsSound, known_at}
+use Rattle.hm_cells.specs.Facts.{Facts, Made, IsSound, known_at, sight_of}
 use Rattle.hm_cells.specs.Calls.{Takes}
 use Rattle.hm_cells.proofs.Found.{found_there}
 use Rattle.hm_cells.proofs.Stepped.{held_lookable, kept_held, kept_stays, known_version, written_here, written_stays}
@@ -30,11 +30,13 @@ module _ {U : Type 0} where
       inl (r, ap (λ (l : List (Option Version)). get_or l r None) roots ∙ at)
   kept_same s t roots hand v (inr c) = inr (subst (λ (l : List Version). Contains l v) (sym hand) c)
 
-  pub names_same : (s t : Facts U) → t.roots ≡ s.roots → t.hand ≡ s.hand → (w : ℕ) → NamesKept s w
+  -- so a word that names what is kept does so still
+  names_same : (s t : Facts U) → t.roots ≡ s.roots → t.hand ≡ s.hand → (w : ℕ) → NamesKept s w
       → NamesKept t w
   names_same s t roots hand w (inl none) = inl none
   names_same s t roots hand w (inr (v, is, kept)) = inr (v, is, kept_same s t roots hand v kept)
 
+  -- and one that lasts does
   pub lasts_same : (s t : Facts U) → t.roots ≡ s.roots → t.hand ≡ s.hand → (j w : ℕ) → Lasts s j w
       → Lasts t j w
   lasts_same s t roots hand j w (inl plain) = inl plain
@@ -55,11 +57,48 @@ module _ {U : Type 0} where
       go None at = inl refl
       go (Some v) at = inr (v, refl, inl (r.0, at))
 
+  -- and so are those of several
   pub places_kept : (s : Facts U) (refs : Places) (words : List ℕ)
       → words ≡ map (reference_word s.roots) refs → All (NamesKept s) words
   places_kept s refs words are =
       subst (All (NamesKept s)) (sym are)
       (All-map (NamesKept s) (reference_word s.roots) refs (λ i d low. place_kept s (get_or refs i d)))
+
+  -- first words, the references and the numbers are written, and what is kept stays
+  pub record WritesAll (s : Facts U) (first : ℕ) (head words numbers : List ℕ) (t : Facts U) : Type 0 where
+    pub same : sight_of t ≡ sight_of s
+    pub roots : t.roots ≡ s.roots
+    pub hand : t.hand ≡ s.hand
+    pub known : (v : Version) → IsKept s v → known_at t v ≡ known_at s v
+    pub top : (i : ℕ) → i < length head → first + i < 2 → Lasts s (first + i) (slice_index head i)
+        → IsWritten t.part.draft.written (first + i) (slice_index head i)
+    pub refs : (i : ℕ) → i < 4 → IsWritten t.part.draft.written (2 + i) (slice_index words i)
+    pub values : (i : ℕ) → i < 10 → IsWritten t.part.draft.written (6 + i) (slice_index numbers i)
+
+  -- they are where each part was
+  pub writes_all : (s t1 t2 t3 : Facts U) (first : ℕ) (head words numbers : List ℕ) → length words ≡ 4
+      → length numbers ≡ 10 → All (NamesKept s) words → Writes s first head (length head) t1
+      → Writes t1 2 words (length words) t2 → Writes t2 6 numbers (length numbers) t3
+      → WritesAll s first head words numbers t3
+  writes_all s t1 t2 t3 first head words numbers four ten all one two three =
+      let roots2 : t2.roots ≡ s.roots = two.roots ∙ one.roots in
+      let hand2 : t2.hand ≡ s.hand = two.hand ∙ one.hand in
+      record {
+        same = three.same ∙ (two.same ∙ one.same);
+        roots = three.roots ∙ roots2;
+        hand = three.hand ∙ hand2;
+        known = λ v kept. three.known v (kept_same s t2 roots2 hand2 v kept)
+            ∙ (two.known v (kept_same s t1 one.roots one.hand v kept) ∙ one.known v kept);
+        top = λ i less low lasts.
+            three.below (first + i) (slice_index head i) (omega arith)
+            (lasts_same s t2 roots2 hand2 (first + i) (slice_index head i) lasts)
+            (two.below (first + i) (slice_index head i) low
+            (lasts_same s t1 one.roots one.hand (first + i) (slice_index head i) lasts) (one.here i less));
+        refs = λ i low.
+            three.below (2 + i) (slice_index words i) (omega arith)
+            (words_last s t2 words roots2 hand2 all (2 + i) i (omega arith)) (two.here i (omega arith));
+        values = λ i low. three.here i (omega arith);
+      }
 
 same_store : (i j w x : ℕ) → Builds (StoreOwn i w) ≡ Builds (StoreOwn j x) → i ≡ j
 same_store i j w x e = cc
@@ -84,6 +123,7 @@ module _ {U : Type 0} (lawful : U → PlainStore → Type 0) (allowed : U → Pl
   module _ (s t u : Facts U) (first n w : ℕ) (words : List ℕ) (k : Works lawful allowed t m)
       (after : IsSound lawful allowed u)
       (took : Takes lawful allowed t (Builds (StoreOwn (first + n) w)) w u) where
+    -- the pass is at work still
     pub works_stored : Works lawful allowed u m
     works_stored = works_none lawful allowed t u (Builds (StoreOwn (first + n) w)) w took m k after took.what refl
 

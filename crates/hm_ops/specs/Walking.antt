@@ -39,7 +39,7 @@ module _ {U : Type 0} where
 
   module _ (lawful : U → PlainStore → Type 0) (allowed : U → PlainStore → Entry → Type 0)
       (m : Made U) where
-    -- a walk from a root place ends at a version: the place names it, and the object was fetched there
+    -- a walk ends at a version, which its root place names, and the object was fetched there
     pub record Walks (s : Facts U) (r : Root) (v : Version) (t : Facts U) : Type 0 where
       pub fetch : Fetches lawful allowed (sight_of s) (sight_of t) r (contents_at t v)
       pub names : names_at t ≡ names_at s
@@ -79,7 +79,7 @@ module _ {U : Type 0} where
       pub known : known_at t v ≡ known_at s v
       pub keeps : Keeps lawful allowed t m
 
-    -- a load of a reference into a root place, which then names what the reference names, or nothing
+    -- a load of a reference into a root place: that names what the reference names, or nothing
     pub record ReadsInto (s : Facts U) (v : Version) (i into : ℕ) (t : Facts U) : Type 0 where
       pub rests : Rests (sight_of s) (sight_of t)
       pub names : SetsRoot (sight_of s) (sight_of t) into (reference_at (contents_at s v) i)
