@@ -1,6 +1,6 @@
 -- A fresh machine is good.
 use Rattle.std.proofs.Common.{◌≡◌, ◌≢◌, ◌<◌, ◌≤◌, ◌+◌, ◌*◌, ◌==◌, ℕ, zero, suc, Bool, true, false, cond, is_some, eqb, eq-eqb, ne_eqb, List, [], ◌∷◌, ◌++◌, map, length, replicate, All, Option, Some, None, IfSome, Contains, if◌then◌else◌, refl, sym, ap, ◌∙◌, subst, arith, ⊎_elim, append-nil, append_assoc, suc-mul, IsSome}
-use Rattle.hm_moves.proofs.Words.{slice_get, list_any, mul-lt, get_or_from_slice_get, slice_get_past, slice_get_within, slice_get-get_or, All-nil, All-cons, All-head, All-tail, ℕ_discrete, dite, Shape, Version, IsAt, word_count, Name, Contents, Start, Entry, Create, Numbers, IsSized, PlainStore, contents_of, caller_of}
+use Rattle.hm_moves.proofs.Words.{nat_tests, common_steps, slice_get, list_any, mul-lt, get_or_from_slice_get, slice_get_past, slice_get_within, slice_get-get_or, All-nil, All-cons, All-head, All-tail, ℕ_discrete, dite, Shape, Version, IsAt, word_count, Name, Contents, Start, Entry, Create, Numbers, IsSized, PlainStore, contents_of, caller_of}
 use Rattle.hm_moves.proofs.Words.{new_contents, effect_of, store_after, store_of, common_name, opening_of, side_count, side_entries, side_names, starting_count, starting_name, IsSizedStart, is_same-self, is_same-other, there_contents, store_after-append, Known, Site, Index, IsPublished, AreTrue, AreChained, IsLinked}
 use Rattle.hm_moves.proofs.Words.{link_of, Heap, ArePlaced, row_count, total, AreRanked, HasHead, IsOwn, Places, Begins, AreBelow, HeapIsGood, PartIsGood, Core, Good, AreApart, starting_known, side_known, common_known, all_known, fresh_index, fresh_used, fresh_part, IsFreshCore, fresh_places}
 use Rattle.std.proofs.lemmas.List.Sums.{sum_by-cons}
@@ -179,9 +179,7 @@ module _ (start : Start) (sized : IsSizedStart start) where
 
   total_some : (n : ℕ) → 0 < n → 0 < total (fresh_used start) n
   total_some zero h = absurd (omega arith)
-  total_some (suc n) h = dite (ℕ_discrete n 0)
-      (λ e. let one = used_first n e in omega arith)
-      (λ ne. let more = total_some n (omega arith) in omega arith)
+  total_some (suc n) h = grind (arith, used_first n, total_some n)
 
   -- the versions lie in the first row
   module _ (s : Shape) (room : starting_count start ≤ s.versions) where
@@ -284,13 +282,9 @@ module _ {U : Type 0} (lawful : U → PlainStore → Type 0) (allowed : U → Pl
 
     row_used : (q : ℕ) → (if q == 0 then starting_count g.start else 0) ≡ fresh_used g.start
         (q * g.shape.regions + 0)
-    row_used q = dite (ℕ_discrete q 0)
-        (λ e. rw (eq-eqb q 0 e) (sym (used_first g.start sized (q * g.shape.regions + 0)
-        (let at : q * g.shape.regions ≡ 0 * g.shape.regions = ap (λ (r : ℕ). r * g.shape.regions) e in omega
-        arith))))
-        (λ ne. rw (ne_eqb q 0 ne) (sym (used_other g.start sized (q * g.shape.regions + 0)
-        (λ z. let more = mul-lt 0 0 q g.shape.regions (omega arith) (omega (arith, g.shape.regions_fit)) in
-        omega arith))))
+    row_used q =
+        let more = mul-lt 0 0 q g.shape.regions in let fit = g.shape.regions_fit in
+        grind (arith, nat_tests, common_steps, used_first g.start sized (q * g.shape.regions + 0), used_other g.start sized (q * g.shape.regions + 0))
 
     -- caller 0 has published all
     abbrev own_list : ℕ → List Known
@@ -338,11 +332,7 @@ module _ {U : Type 0} (lawful : U → PlainStore → Type 0) (allowed : U → Pl
             rw (ne_eqb x.version.0 n (λ z. omega arith)) (none_of n (j + 1) xs e.1 (omega arith))
 
     own_apart : (q : ℕ) → AreApart (own_list q)
-    own_apart q = go (eqb q 0)
-      where
-        go : (t : Bool) → AreApart (if t then all_known g.start else [])
-        go true = numbered_apart 0 (all_known g.start) (numbered g.start sized)
-        go false = tt
+    own_apart q = grind (arith, common_steps, numbered_apart 0 (all_known g.start) (numbered g.start sized))
 
     -- a version of another row than the first is not there
     first_row : (q region place : ℕ) (k : Known) → IsPublished (fresh_index g.start) k
@@ -363,9 +353,12 @@ module _ {U : Type 0} (lawful : U → PlainStore → Type 0) (allowed : U → Pl
         omega arith
 
     own_all : (q : ℕ) (k : Known) → IsOwn g.shape q (fresh_index g.start) k → Contains (own_list q) k
-    own_all q k own = dite (ℕ_discrete q 0)
-        (λ e. rw (eq-eqb q 0 e) (slice_get_contains (all_known g.start) k.version.0 k own.published))
-        (λ ne. absurd (first_row q own.region own.place k own.published own.at ne))
+    own_all q k own = grind (
+      arith,
+      nat_tests,
+      slice_get_contains (all_known g.start) k.version.0 k own.published,
+      first_row q own.region own.place k own.published own.at,
+    )
 
     part_good : (q : ℕ) → q < g.shape.callers → PartIsGood g heap (opening_of g.start) (fresh_part g q)
     part_good q low = record {

@@ -108,12 +108,12 @@ begins_longer xs ys h b d =
 
 -- either of two beginnings of one history begins the longer of them
 pub left_begins : (xs ys h : List Entry) → Begins xs h → Begins ys h → Begins xs (longer xs ys)
-left_begins xs ys h b d = elim (nat_lt (length xs) (length ys)) as (λ t. nat_lt (length xs) (length ys) ≡ t → Begins xs (if t then ys else xs))
-    [ true ↦ λ is. begins_shorter xs ys h b.rest d.rest b.is d.is (grind (arith, nat_tests)) | false ↦ λ is. begins_self xs ] refl
+left_begins xs ys h b d =
+    grind (arith, nat_tests, begins_shorter xs ys h b.rest d.rest b.is d.is, begins_self xs)
 
 pub right_begins : (xs ys h : List Entry) → Begins xs h → Begins ys h → Begins ys (longer xs ys)
-right_begins xs ys h b d = elim (nat_lt (length xs) (length ys)) as (λ t. nat_lt (length xs) (length ys) ≡ t → Begins ys (if t then ys else xs))
-    [ true ↦ λ is. begins_self ys | false ↦ λ is. begins_shorter ys xs h d.rest b.rest d.is b.is (grind (arith, nat_tests)) ] refl
+right_begins xs ys h b d =
+    grind (arith, nat_tests, begins_shorter ys xs h d.rest b.rest d.is b.is, begins_self ys)
 
 -- what lies between a beginning that has all calls of a caller and the whole has them too
 pub calls_between : (q : ℕ) (xs ys h m : List Entry) → Begins xs ys → Begins ys h → calls_of q h ≡ m

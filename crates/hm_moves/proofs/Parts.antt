@@ -69,11 +69,8 @@ module _ {U : Type 0} (lawful : U → PlainStore → Type 0) (allowed : U → Pl
   -- a word more is stored: it is that one, or one from before
   stored_cases : (i word j w : ℕ) → IsWritten (set p.draft.written i (Some word)) j w → i < 16
       → ((j ≡ i) × (word ≡ w)) ⊎ ((j ≢ i) × IsWritten p.draft.written j w)
-  stored_cases i word j w is low = dite (ℕ_discrete j i)
-      (λ e. let wide = mine.draft.wide in
-      let same : Some word ≡ Some w = sym (get_or-set_same p.draft.written i (Some word) None (omega arith))
-      ∙ (ap (λ (n : ℕ). get_or (set p.draft.written i (Some word)) n None) (sym e) ∙ is) in inl (e, cc))
-      (λ ne. inr (ne, sym (get_or-set_other p.draft.written i j (Some word) None ne) ∙ is))
+  stored_cases i word j w is low = let wide = mine.draft.wide in
+      grind (arith, get_or-set_same p.draft.written i (Some word) None, get_or-set_other p.draft.written i j (Some word) None)
 
   -- words that were written are there still, where nothing else is moved
   as_before : (words : List ℕ) → words ≡ h.words → p.draft.used + 0 < s.versions → (j w : ℕ)
@@ -289,9 +286,7 @@ module _ {U : Type 0} (lawful : U → PlainStore → Type 0) (allowed : U → Pl
             theirs.draft.region
 
     not_looked : (k : Known) → MayLookInto p k → q.draft.used < s.versions → their_next.0 ≢ k.version.0
-    not_looked k look room e =
-        let both : Some k ≡ None = sym (look_published h seen p mine k look)
-        ∙ (ap h.index (sym e) ∙ their_none room) in cc
+    not_looked k look room e = let a = look_published h seen p mine k look in let b = their_none room in cc
 
     not_next : HasRoom p → q.draft.used < s.versions → their_next.0 ≢ (next_version p).0
     not_next a b e =

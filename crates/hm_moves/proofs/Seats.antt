@@ -66,16 +66,14 @@ module _ {U : Type 0} (lawful : U → PlainStore → Type 0) (allowed : U → Pl
 
     split_seen : (j : ℕ) (u : View U) → get_elem? (split c id v left right).views j ≡ some u → Begins u.seen
         c.heap.history
-    split_seen j u there = ⊎_elim
-        (λ (t : (j ≡ length (set c.views id (view v.seen left))) × (view v.seen right ≡ u)). subst
-        (λ (z : View U). Begins z.seen c.heap.history) t.1 (good.seen id v at))
-        (λ (t : (j < length (set c.views id (view v.seen left))) ×
-        (get_elem? (set c.views id (view v.seen left)) j ≡ some u)). ⊎_elim
-        (λ (r : (j ≡ id) × (view v.seen left ≡ u)). subst (λ (z : View U). Begins z.seen c.heap.history) r.1
-        (good.seen id v at))
-        (λ (r : (j ≢ id) × (get_elem? c.views j ≡ some u)). good.seen j u r.1)
-        (at_set c.views id j (view v.seen left) u t.1))
-        (at_end (set c.views id (view v.seen left)) (view v.seen right) u j there)
+    split_seen j u there =
+        grind (
+          arith,
+          at_end (set c.views id (view v.seen left)) (view v.seen right) u j there,
+          at_set c.views id j (view v.seen left) u,
+          good.seen id v at,
+          good.seen j u,
+        )
 
     pub good_split : Good lawful allowed g (split c id v left right)
     good_split = record {
@@ -100,13 +98,12 @@ module _ {U : Type 0} (lawful : U → PlainStore → Type 0) (allowed : U → Pl
     after_join : (j : ℕ) (u : View U) → get_elem? (joined c id v other w).views j ≡ some u
         → ((j ≡ other) × (spent_view ≡ u)) ⊎ (((j ≡ id) × (joined_view v w ≡ u)) ⊎
         ((j ≢ id) × (j ≢ other) × (get_elem? c.views j ≡ some u)))
-    after_join j u h = ⊎_elim
-        (λ (t : (j ≡ other) × (spent_view ≡ u)). inl t)
-        (λ (t : (j ≢ other) × (get_elem? (set c.views id (joined_view v w)) j ≡ some u)). inr (⊎_elim
-        (λ (r : (j ≡ id) × (joined_view v w ≡ u)). inl r)
-        (λ (r : (j ≢ id) × (get_elem? c.views j ≡ some u)). inr (r.0, t.0, r.1))
-        (at_set c.views id j (joined_view v w) u t.1)))
-        (at_set (set c.views id (joined_view v w)) other j spent_view u h)
+    after_join j u h =
+        grind (
+          arith,
+          at_set (set c.views id (joined_view v w)) other j spent_view u h,
+          at_set c.views id j (joined_view v w) u,
+        )
 
     -- where a caller stood before: the same place, or in the seat that was taken in
     record Merged (j k : ℕ) (u : View U) (q : Part U) : Type 0 where
