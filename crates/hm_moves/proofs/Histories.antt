@@ -144,7 +144,7 @@ module _ (lawful : PlainStore → Type 0) (allowed : PlainStore → Entry → Ty
   come_behind start seen rest b h =
       let opening : List Entry = opening_of start in
       let is : h.legal.rest ≡ b.rest ++ rest = same_start opening h.legal.rest (b.rest ++ rest)
-      (sym h.legal.begins ∙ (ap (λ (l : List Entry). l ++ rest) b.is ∙ append_assoc opening b.rest rest)) in
+      (let a = h.legal.begins in let e = b.is in let c = append_assoc opening b.rest rest in cc) in
       let all : AllCome lawful allowed (store_of opening) (b.rest ++ rest) =
       subst (λ (l : List Entry). AllCome lawful allowed (store_of opening) l) is h.come in
       let at : store_of seen ≡ store_after (store_of opening) b.rest = ap store_of b.is
@@ -158,8 +158,7 @@ module _ (lawful : PlainStore → Type 0) (allowed : PlainStore → Entry → Ty
   lawful_before start seen h b d k =
       let opening : List Entry = opening_of start in
       let is : k.legal.rest ≡ b.rest ++ d.rest = same_start opening k.legal.rest (b.rest ++ d.rest)
-      (sym k.legal.begins
-      ∙ (d.is ∙ (ap (λ (l : List Entry). l ++ d.rest) b.is ∙ append_assoc opening b.rest d.rest))) in
+      (let a = k.legal.begins in let e = d.is in let f = b.is in let c = append_assoc opening b.rest d.rest in cc) in
       let come : AllCome lawful allowed (store_of opening) (b.rest ++ d.rest) =
       subst (λ (l : List Entry). AllCome lawful allowed (store_of opening) l) is k.come in
       let stand : AllStand [] (seen ++ d.rest) = subst (AllStand []) d.is k.legal.stand in

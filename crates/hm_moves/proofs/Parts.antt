@@ -1,9 +1,9 @@
 -- What a move leaves of the caller that makes it, and of the others.
-use Rattle.std.proofs.Common.{◌≡◌, ◌≢◌, ◌⊎◌, ◌||◌, ◌<◌, ◌+◌, ◌*◌, ℕ, zero, suc, true, List, [], ◌∷◌, ◌++◌, length, set, slice_index, slice_set, get_or, Option, Some, None, IfSome, Contains, refl, sym, ap, ◌∙◌, subst, arith, inl, inr, ⊎_elim, append-nil, length-set, get_or-set_same, get_or-set_other, append_assoc, false, ne_eqb, Bool, ◌||◌}
-use Rattle.hm_moves.proofs.Words.{Contains-push, Contains-append_left, ℕ_discrete, dite, Shape, Version, IsAt, version_at, word_at, Name, Entry, PlainStore, calls_of, opening_of, IsLawful, Known, Part, Act, Looks, Builds, Look, LoadStamp, LoadReference, LoadNumber, LoadLink, list_any, StoreOwn, Publish, LinkStore, Move, Heap, row_of, Places, IsOwn, places_with, IsPublished, Index, next_version, word_of}
+use Rattle.std.proofs.Common.{◌≡◌, ◌≢◌, ◌⊎◌, ◌||◌, ◌<◌, ◌+◌, ◌*◌, ℕ, zero, suc, true, List, [], ◌∷◌, ◌++◌, length, set, slice_index, slice_set, Option, Some, None, IfSome, Contains, refl, sym, ap, ◌∙◌, subst, arith, inl, ⊎_elim, append-nil, length-set, get_or-set_same, get_or-set_other, append_assoc, false, ne_eqb, Bool, ◌||◌}
+use Rattle.hm_moves.proofs.Words.{Contains-push, Contains-append_left, Shape, Version, IsAt, version_at, word_at, Name, Entry, PlainStore, calls_of, opening_of, IsLawful, Known, Part, Act, Looks, Builds, Look, LoadStamp, LoadReference, LoadNumber, LoadLink, list_any, StoreOwn, Publish, LinkStore, Move, Heap, row_of, Places, IsOwn, places_with, IsPublished, Index, next_version, word_of}
 use Rattle.hm_moves.proofs.Words.{becomes, entry_of, publishes, finds, listed, looked_at, looked_word, heap_after, index_with, row_of_part, count_of, is_naming, written_with, without, with_held, hands_after, part_after, seen_after, is_version, IsWritten, Names, HasRoom, IsWritable, MayLookInto, MayTake, IsWordOf, Begins, HeapIsGood, PartIsGood, HasCalls, AreIndexed, AreApart, published_of}
 use Rattle.hm_moves.proofs.Histories.{IsBy, calls_after, calls_beside, begins_more, begins_on, begins_self, lawful_before}
-use Rattle.hm_moves.proofs.Placed.{published_either, raised_here, raised_else, same_row, elsewhere, written_here, raised_here, raised_else, not_the_one}
+use Rattle.hm_moves.proofs.Placed.{place_small, published_either, raised_here, raised_else, same_row, elsewhere, written_here, raised_here, raised_else, not_the_one}
 use Rattle.hm_moves.proofs.Held.{listed_cases, from_some, held_cases, held_stays, without_held, none_written, written_low, unnamed_wide, unnamed_was, names_without, names_more, contains_here, contains_behind}
 use Rattle.hm_moves.proofs.Heaps.{same_word, look_published, next_small}
 use Rattle.hm_moves.proofs.Finding.{next_now, index_more, index_here, entry_by, fresh_now, found_now}
@@ -75,9 +75,7 @@ module _ {U : Type 0} (lawful : U → PlainStore → Type 0) (allowed : U → Pl
   -- words that were written are there still, where nothing else is moved
   as_before : (words : List ℕ) → words ≡ h.words → p.draft.used + 0 < s.versions → (j w : ℕ)
       → IsWritten p.draft.written j w → own_word words (p.draft.used + 0) j ≡ w
-  as_before words e room j w is =
-      ap (λ (l : List ℕ). own_word l (p.draft.used + 0) j) e
-      ∙ (ap (λ (n : ℕ). own_word h.words n j) (omega arith) ∙ mine.draft.written (omega arith) j w is)
+  as_before words e room j w is = let a = mine.draft.written (omega arith) j w is in grind arith
 
   one_more : (i word : ℕ) → IsWritable p i word → p.draft.used + 0 < s.versions → (j w : ℕ)
       → IsWritten (set p.draft.written i (Some word)) j w
@@ -87,14 +85,14 @@ module _ {U : Type 0} (lawful : U → PlainStore → Type 0) (allowed : U → Pl
       let small : j < 16 = written_low (set p.draft.written i (Some word)) j w
       (length-set p.draft.written i (Some word) ∙ mine.draft.wide) is in
       let low : i < 16 = may.below in
-      ap (λ (n : ℕ). own_word words n j) (omega arith) ∙ ⊎_elim
-      (λ (t : (j ≡ i) × (word ≡ w)). ap (λ (n : ℕ). own_word words p.draft.used n) t.0
-      ∙ (written_here s h.words (next_version p) i word good.wide
-      (next_small lawful allowed h seen p good mine may.room) low ∙ t.1))
-      (λ (t : (j ≢ i) × IsWritten p.draft.written j w).
-      elsewhere s h.words (next_version p) (next_version p) j i word small low (inr t.0)
-      ∙ mine.draft.written may.room j w t.1)
-      (stored_cases i word j w is low)
+      grind (
+        arith,
+        stored_cases i word j w is low,
+        mine.draft.written may.room j w,
+        written_here s h.words (next_version p) i word good.wide
+            (next_small lawful allowed h seen p good mine may.room) low,
+        elsewhere s h.words (next_version p) (next_version p) j i word small low,
+      )
 
   -- written words are in the Table
   written_after : (act : Act) → May act → (x : ℕ) → x ≡ slice_index h.words (word_of p act)
@@ -156,12 +154,14 @@ module _ {U : Type 0} (lawful : U → PlainStore → Type 0) (allowed : U → Pl
       → Contains (listed_with o) k
   own_more None k own = subst (λ (l : List Known). Contains l k) (sym (append-nil (published_of p.hands)))
       (mine.hands.all k own)
-  own_more (Some f) k own = ⊎_elim
-      (λ (t : f ≡ k). subst (Contains (listed_with (Some f))) t (Contains-push (published_of p.hands) f))
-      (λ (t : (k.version.0 ≢ f.version.0) × IsPublished h.index k).
-      Contains-append_left (published_of p.hands) (f ∷ []) k
-      (mine.hands.all k (record { published = t.1; region = own.region; place = own.place; at = own.at })))
-      (published_either h.index f k own.published)
+  own_more (Some f) k own = grind (
+    arith,
+    published_either h.index f k own.published,
+    Contains-push (published_of p.hands) f,
+    Contains-append_left (published_of p.hands) (f ∷ []) k,
+    λ (t : IsPublished h.index k). mine.hands.all k
+        (record { published = t; region = own.region; place = own.place; at = own.at }),
+  )
 
   -- the caller's hands afterwards have published versions
   hands_now : (m : Move) (x : ℕ) (found : Option Known)
@@ -276,14 +276,10 @@ module _ {U : Type 0} (lawful : U → PlainStore → Type 0) (allowed : U → Pl
 
     their_none : q.draft.used < s.versions → h.index their_next.0 ≡ None
     their_none room =
-        let a = theirs.draft.used in
-        ap (λ (i : ℕ). h.index (their_row * s.versions + i)) a
-        ∙ good.placed.unused their_row (h.places.used their_row) (row_below_of q.number theirs.number) (omega arith)
+        let small = place_small q.number s.callers s.regions q.draft.region theirs.number theirs.draft.region in
+        ap (λ (i : ℕ). h.index (their_row * s.versions + i)) theirs.draft.used
+        ∙ good.placed.unused their_row (h.places.used their_row) small (let a = theirs.draft.used in omega arith)
         (omega arith)
-      where
-        row_below_of : (n : ℕ) → n < s.callers → row_of s n q.draft.region < s.callers * s.regions
-        row_below_of n low = Rattle.hm_moves.proofs.Placed.place_small n s.callers s.regions q.draft.region low
-            theirs.draft.region
 
     not_looked : (k : Known) → MayLookInto p k → q.draft.used < s.versions → their_next.0 ≢ k.version.0
     not_looked k look room e = let a = look_published h seen p mine k look in let b = their_none room in cc
