@@ -217,8 +217,7 @@ module _ (s : Shape) (start : Start) (sized : IsSizedStart start) (room : starti
         let four = h.four in
         let long = length-map k.contents.refs count_word in
         let at : 6 + i ≡ length (0 ∷ 0 ∷ map count_word k.contents.refs) + i = omega arith in
-        ap (λ (n : ℕ). get_or (known_words k) n 0) at
-        ∙ get_or-append-add (0 ∷ 0 ∷ map count_word k.contents.refs) k.contents.numbers i 0
+        let a = get_or-append-add (0 ∷ 0 ∷ map count_word k.contents.refs) k.contents.numbers i 0 in cc
 
     -- a starting object's name is of the version with its count
     refers : (o : Option Name) → IfSome o (IsBelow (length (all_known start)))

@@ -33,22 +33,14 @@ numbered_append k (x ∷ xs) ys h e =
 pub numbered_at : (k : ℕ) (ms : List Known) (i : ℕ) (m : Known) → AreNumbered k ms → slice_get ms i ≡ Some m
     → IsNumbered (k + i) m
 numbered_at k [] i m h e = absurd (cc)
-numbered_at k (x ∷ xs) zero m h e =
-    let is : x ≡ m = cc in
-    let at : k ≡ k + 0 = omega arith in
-    subst (λ (j : ℕ). IsNumbered j m) at (subst (IsNumbered k) is h.0)
-numbered_at k (x ∷ xs) (suc i) m h e =
-    let at : (k + 1) + i ≡ k + suc i = omega arith in
-    subst (λ (j : ℕ). IsNumbered j m) at (numbered_at (k + 1) xs i m h.1 e)
+numbered_at k (x ∷ xs) zero m h e = grind arith
+numbered_at k (x ∷ xs) (suc i) m h e = grind (arith, numbered_at (k + 1) xs i m h.1 e)
 
 -- the store has each under its name
 stored_at : (k : ℕ) (ms : List Known) (i : ℕ) (m : Known) → AreNumbered k ms → slice_get ms i ≡ Some m
     → contents_of (stored ms) m.name ≡ Some m.contents
 stored_at k [] i m h e = absurd (cc)
-stored_at k (x ∷ xs) zero m h e =
-    let is : x ≡ m = cc in
-    subst (λ (z : Known). contents_of (stored (x ∷ xs)) z.name ≡ Some z.contents) is
-    (rw (is_same-self x.name) refl)
+stored_at k (x ∷ xs) zero m h e = let same = is_same-self x.name in grind (arith, common_steps)
 stored_at k (x ∷ xs) (suc i) m h e =
     let this = numbered_at (k + 1) xs i m h.1 e in
     let first : x.name.count ≡ k = ap (λ (z : Known). z.name.count) h.0.is in
@@ -193,19 +185,10 @@ module _ (start : Start) (sized : IsSizedStart start) where
           let long = many in
           let small = place_small 0 (row_count s) s.versions k.version.0 rows (omega arith) in omega arith;
       unused = λ row i below low past. slice_get_past (all_known start) (row * s.versions + i)
-          (dite (ℕ_discrete row 0)
-          (λ e. let one = used_first row e in let long = many in
-          let at : row * s.versions ≡ 0 * s.versions = ap (λ (r : ℕ). r * s.versions) e in omega arith)
-          (λ ne. let long = many in
-          let more : s.versions ≤ row * s.versions = row_more row ne in omega arith));
-      filled = λ row. dite (ℕ_discrete row 0)
-          (λ e. let one = used_first row e in omega arith)
-          (λ ne. let none = used_other row ne in omega arith);
-      taken = λ row i below low. dite (ℕ_discrete row 0)
-          (λ e. let one = used_first row e in let long = many in
-          let at : row * s.versions ≡ 0 * s.versions = ap (λ (r : ℕ). r * s.versions) e in
-          slice_get_some (all_known start) (row * s.versions + i) (omega arith))
-          (λ ne. let none = used_other row ne in absurd (omega arith));
+          (let long = many in let more = row_more row in grind (arith, used_first row));
+      filled = λ row. grind (arith, used_first row, used_other row);
+      taken = λ row i below low. let long = many in
+          grind (arith, used_first row, used_other row, slice_get_some (all_known start) (row * s.versions + i));
       sized = λ k there. let h = known_at k there in
           let stamp = h.stamp in record { stamp = omega arith; contents = h.sized };
     }

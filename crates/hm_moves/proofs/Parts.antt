@@ -113,10 +113,8 @@ module _ {U : Type 0} (lawful : U → PlainStore → Type 0) (allowed : U → Pl
   named_before : (act : Act) → May act → (x j w : ℕ) → is_naming j ≡ true
       → IsWritten (written_with p.draft.written act (publishes act x)) j w → Names p.hands.held w
   named_before (Looks l) may x j w n is = mine.draft.named j w n is
-  named_before (Builds (StoreOwn i word)) may x j w n is = ⊎_elim
-      (λ (t : (j ≡ i) × (word ≡ w)). subst (Names p.hands.held) t.1 (may.named (ap is_naming (sym t.0) ∙ n)))
-      (λ (t : (j ≢ i) × IsWritten p.draft.written j w). mine.draft.named j w n t.1)
-      (stored_cases i word j w is may.below)
+  named_before (Builds (StoreOwn i word)) may x j w n is =
+      grind (arith, stored_cases i word j w is may.below, may.named, mine.draft.named j w n)
   named_before (Builds (Publish k)) may x j w n is = absurd (none_written j w is)
   named_before (Builds (LinkStore at k o)) may zero j w n is = absurd (none_written j w is)
   named_before (Builds (LinkStore at k o)) may (suc m) j w n is = mine.draft.named j w n is
@@ -174,21 +172,14 @@ module _ {U : Type 0} (lawful : U → PlainStore → Type 0) (allowed : U → Pl
       let same : published_of (hands_after p.hands m x found) ≡ listed_with new =
       sym (append_assoc p.hands.left p.hands.own (listed new)) in
       record {
-        held = λ k there. ⊎_elim
-            (λ (t : Contains (with_held (without p.hands.held m.let_go) found) k).
-            index_more h.index new k fresh (⊎_elim
-            (λ (r : Contains (without p.hands.held m.let_go) k).
-            mine.hands.held k (without_held p.hands.held m.let_go k r))
-            (λ (r : found ≡ Some k). from_some (IsPublished h.index) found k r is)
-            (held_cases (without p.hands.held m.let_go) found k t)))
-            (λ (t : new ≡ Some k). index_here h.index new k t)
-            (held_cases (with_held (without p.hands.held m.let_go) found) new k there);
-        own = λ k there. ⊎_elim
-            (λ (t : Contains (published_of p.hands) k).
-            still_own p.number new k fresh (mine.hands.own k t))
-            (λ (t : new ≡ Some k). fresh_own (index_with h.index new) k (from_some
-            (λ n. (n.version ≡ next_version p) × HasRoom p) new k t next) (index_here h.index new k t))
-            (listed_cases (published_of p.hands) new k (subst (λ (l : List Known). Contains l k) same there));
+        held = λ k there. grind (arith, held_cases (with_held (without p.hands.held m.let_go) found) new k there,
+            held_cases (without p.hands.held m.let_go) found k, without_held p.hands.held m.let_go k,
+            mine.hands.held k, index_more h.index new k fresh, index_here h.index new k,
+            from_some (IsPublished h.index) found k);
+        own = λ k there. grind (arith, listed_cases (published_of p.hands) new k, there, same,
+            mine.hands.own k, still_own p.number new k fresh, index_here h.index new k,
+            fresh_own (index_with h.index new) k,
+            from_some (λ n. (n.version ≡ next_version p) × HasRoom p) new k);
         all = λ k own. subst (λ (l : List Known). Contains l k) (sym same) (own_more new k own);
         once = subst AreApart (sym same) (apart_with (published_of p.hands) new mine.hands.once
             (λ k n there e. not_the_one h.index n k (from_some (λ f. h.index f.version.0 ≡ None) new n e fresh)
@@ -330,21 +321,16 @@ module _ {U : Type 0} (lawful : U → PlainStore → Type 0) (allowed : U → Pl
     not_theirs k region place is room at =
         let same : row_of s q.number region * s.versions + place ≡ (next_version p).0 =
         ap (λ (v : Version). v.0) (sym at.number ∙ is) in
-        let rows : row_of s q.number region ≡ row_of_part p = same_row (row_of s q.number region)
-        (row_of_part p)
-        s.versions place p.draft.used at.place_fits room same in
         apart (same_row q.number p.number s.regions region p.draft.region at.region_fits mine.draft.region
-        rows)
+        (same_row (row_of s q.number region) (row_of_part p) s.versions place p.draft.used at.place_fits room same))
 
     their_own : (o : Option Known) → IfSome o (λ f. (f.version ≡ next_version p) × HasRoom p) → (k : Known)
         → IsOwn s q.number (index_with h.index o) k → Contains (published_of q.hands) k
     their_own None f k own = theirs.hands.all k own
-    their_own (Some m) f k own = ⊎_elim
-        (λ (t : m ≡ k). absurd (not_theirs k own.region own.place
-        (ap (λ (z : Known). z.version) (sym t) ∙ f.0) f.1 own.at))
-        (λ (t : (k.version.0 ≢ m.version.0) × IsPublished h.index k). theirs.hands.all k
-        (record { published = t.1; region = own.region; place = own.place; at = own.at }))
-        (published_either h.index m k own.published)
+    their_own (Some m) f k own = grind (arith, published_either h.index m k own.published,
+        λ (is : k.version ≡ next_version p). not_theirs k own.region own.place is f.1 own.at,
+        λ (t : IsPublished h.index k). theirs.hands.all k
+        (record { published = t; region = own.region; place = own.place; at = own.at }))
 
     -- a caller that makes no move
     pub other_part : (act : Act) → May act → (x : ℕ) → (after : List Entry)
