@@ -87,9 +87,7 @@ module _ (s : Shape) (words words' : List ℕ) (index : Index) (store store' : P
     -- a last version of the object is the one that it was hung on
     only_last : (m : Known) → IsPublished index m → m.name ≡ at.name → link_of s words m ≡ 0 → m ≡ at
     only_last m p e z =
-        let a = h.top at m there p e last in
-        let b = h.top m at p there (sym e) z in
-        h.apart at m there p e (omega arith)
+        grind (arith, h.top at m there p e last, h.top m at p there, h.apart at m there p e)
 
     -- of versions from before, only that one is no longer the last
     still_last : (m : Known) → IsPublished index m → m.version.0 ≢ at.version.0 → link_of s words' m ≡ 0

@@ -3,6 +3,7 @@ use Rattle.std.proofs.Common.{◌≡◌, ◌<◌, ◌≤◌, ◌+◌, ◌-◌, �
 use Rattle.hm_moves.proofs.Words.{slice_get, flat_map, mul-lt, length-append, length-map, length-replicate, get_or_append_left, get_or-append-add, get_or-map, get_or-replicate, map-append, All-nil, All-cons, All-append, All-get_or, flat_map-append, get_or_from_slice_get, slice_get-get_or, slice_get_within, Shape, version_count, reply_at, roles_at, word_at, word_count, Name}
 use Rattle.hm_moves.proofs.Words.{Start, Refs, Numbers, IsSized, new_contents, side_names, starting_count, starting_name, IsSizedStart, Known, IsPublished, Refers, words_at, reference_at, only_to, row_count, starting_known, side_known, common_known, all_known, fresh_index, AreFirst, LaysSide, count_word, first_words, head_words, known_words, laid_words}
 use Rattle.hm_moves.proofs.Fresh.{AreNumbered, numbered_at, numbered, many, known_at}
+use Rattle.hm_moves.proofs.Placed.{versions_some}
 
 -- all side objects are laid, from number k on
 pub record AreLaid (before : List ℕ) (k : ℕ) (sides : List (Option Numbers)) (words after : List ℕ) : Type 0 where
@@ -122,10 +123,6 @@ word_of_place k (x ∷ ms) rest (suc i) j m h e low =
     ∙ (ap (λ (n : ℕ). get_or (known_words x ++ (flat_map known_words ms ++ rest)) n 0) at
     ∙ (get_or-append-add (known_words x) (flat_map known_words ms ++ rest) (16 * i + j) 0
     ∙ word_of_place (k + 1) ms rest i j m h.1 e low))
-
-versions_some : (r v : ℕ) → 0 < r → v ≤ r * v
-versions_some zero v low = absurd (omega arith)
-versions_some (suc r) v low = omega (arith, suc-mul r v)
 
 module _ (s : Shape) (start : Start) (sized : IsSizedStart start) (room : starting_count start ≤ s.versions)
   where

@@ -1,12 +1,12 @@
 -- A fresh machine is good.
 use Rattle.std.proofs.Common.{◌≡◌, ◌≢◌, ◌<◌, ◌≤◌, ◌+◌, ◌*◌, ◌==◌, ℕ, zero, suc, false, cond, is_some, eq-eqb, ne_eqb, List, [], ◌∷◌, ◌++◌, map, length, replicate, All, Option, Some, None, IfSome, Contains, if◌then◌else◌, refl, sym, ap, ◌∙◌, subst, arith, ⊎_elim, append-nil, append_assoc, suc-mul, IsSome}
-use Rattle.hm_moves.proofs.Words.{nat_tests, common_steps, slice_get, list_any, mul-lt, get_or_from_slice_get, slice_get_past, slice_get_within, slice_get-get_or, All-nil, All-cons, All-head, All-tail, ℕ_discrete, dite, Shape, Version, IsAt, word_count, Name, Contents, Start, Entry, Create, Numbers, IsSized, PlainStore, contents_of, caller_of}
+use Rattle.hm_moves.proofs.Words.{length-append, map-append, nat_tests, common_steps, slice_get, list_any, mul-lt, get_or_from_slice_get, slice_get_past, slice_get_within, slice_get-get_or, All-nil, All-cons, All-head, All-tail, ℕ_discrete, dite, Shape, Version, IsAt, word_count, Name, Contents, Start, Entry, Create, Numbers, IsSized, PlainStore, contents_of, caller_of}
 use Rattle.hm_moves.proofs.Words.{new_contents, effect_of, store_after, store_of, common_name, opening_of, side_count, side_entries, side_names, starting_count, starting_name, IsSizedStart, is_same-self, is_same-other, there_contents, store_after-append, Known, Site, Index, IsPublished, AreTrue, AreChained, IsLinked}
 use Rattle.hm_moves.proofs.Words.{link_of, Heap, ArePlaced, row_count, total, AreRanked, HasHead, IsOwn, Places, Begins, AreBelow, HeapIsGood, PartIsGood, Core, Good, AreApart, starting_known, side_known, common_known, all_known, fresh_index, fresh_used, fresh_part, IsFreshCore, fresh_places}
 use Rattle.std.proofs.lemmas.List.Sums.{sum_by-cons}
 use Rattle.hm_model.proofs.Openings.{lawful_opening}
 use Rattle.hm_moves.proofs.Histories.{below-append, begins_self}
-use Rattle.hm_moves.proofs.Placed.{published_once, place_small, same_row}
+use Rattle.hm_moves.proofs.Placed.{versions_some, published_once, place_small, same_row}
 use Rattle.hm_moves.proofs.Held.{none_written, contains_first}
 
 -- versions are numbered from k on, each the first of its object
@@ -94,10 +94,6 @@ sides_stored s k (Some numbers ∷ sides) =
     let p : Name × Contents = (starting_name k, new_contents (replicate 4 None) numbers) in
     sides_stored (s ++ p ∷ []) (k + 1) sides ∙ append_assoc s (p ∷ []) (stored (side_known (k + 1) sides))
 
-stored_push : (xs : List Known) (m : Known) → stored (xs ++ m ∷ []) ≡ stored xs ++ (m.name, m.contents) ∷ []
-stored_push [] m = refl
-stored_push (x ∷ xs) m = ap (λ (l : PlainStore). (x.name, x.contents) ∷ l) (stored_push xs m)
-
 slice_get_some : (xs : List Known) (i : ℕ) → i < length xs → IsSome (slice_get xs i)
 slice_get_some [] i low = absurd (omega arith)
 slice_get_some (x ∷ xs) zero low = refl
@@ -105,10 +101,6 @@ slice_get_some (x ∷ xs) (suc i) low = slice_get_some xs i (omega arith)
 
 slice_get_contains : (xs : List Known) (i : ℕ) (m : Known) → slice_get xs i ≡ Some m → Contains xs m
 slice_get_contains xs i m h = (i, slice_get_within xs i m h, get_or_from_slice_get xs i m m h)
-
-push_length : (xs : List Known) (m : Known) → length (xs ++ m ∷ []) ≡ length xs + 1
-push_length [] m = refl
-push_length (x ∷ xs) m = let rest = push_length xs m in omega arith
 
 get_last : (xs : List Known) (m : Known) → slice_get (xs ++ m ∷ []) (length xs) ≡ Some m
 get_last [] m = refl
@@ -129,7 +121,7 @@ module _ (start : Start) (sized : IsSizedStart start) where
 
   pub many : length (all_known start) ≡ starting_count start
   many =
-      let a = push_length (side_known 0 start.sides) (common_known start) in
+      let a = length-append (side_known 0 start.sides) (common_known start ∷ []) in
       let b = sides_length 0 start.sides in omega arith
 
   -- the store has just these
@@ -138,7 +130,7 @@ module _ (start : Start) (sized : IsSizedStart start) where
       let e : Entry = Create 0 (common_name start) (side_names 0 start.sides) start.numbers in
       store_after-append [] (side_entries 0 start.sides) (e ∷ [])
       ∙ (ap (λ (s : PlainStore). effect_of s e) (sides_stored [] 0 start.sides)
-      ∙ sym (stored_push (side_known 0 start.sides) (common_known start)))
+      ∙ sym (map-append (λ (m : Known). (m.name, m.contents)) (side_known 0 start.sides) (common_known start ∷ [])))
 
   pub known_at : (k : Known) → IsPublished (fresh_index start) k → IsNumbered k.version.0 k
   known_at k there = let at : 0 + k.version.0 ≡ k.version.0 = omega arith in
@@ -185,17 +177,13 @@ module _ (start : Start) (sized : IsSizedStart start) where
           let long = many in
           let small = place_small 0 (row_count s) s.versions k.version.0 rows (omega arith) in omega arith;
       unused = λ row i below low past. slice_get_past (all_known start) (row * s.versions + i)
-          (let long = many in let more = row_more row in grind (arith, used_first row));
+          (let long = many in let more = versions_some row s.versions in grind (arith, used_first row));
       filled = λ row. grind (arith, used_first row, used_other row);
       taken = λ row i below low. let long = many in
           grind (arith, used_first row, used_other row, slice_get_some (all_known start) (row * s.versions + i));
       sized = λ k there. let h = known_at k there in
           let stamp = h.stamp in record { stamp = omega arith; contents = h.sized };
     }
-      where
-        row_more : (row : ℕ) → row ≢ 0 → s.versions ≤ row * s.versions
-        row_more zero ne = absurd (ne refl)
-        row_more (suc row) ne = omega (arith, suc-mul row s.versions)
 
     ranked : AreRanked s (fresh_index start) (fresh_places start) 0
     ranked = record {
