@@ -48,26 +48,20 @@ stored_at k (x ∷ xs) (suc i) m h e =
     let apart : x.name ≢ m.name = λ z. let same = ap (λ (n : Name). n.count) z in omega arith in
     rw (is_same-other x.name m.name apart) (stored_at (k + 1) xs i m h.1 e)
 
-sides_numbered : (k : ℕ) (sides : List (Option Numbers)) → All
-    (λ side. IfSome side (λ numbers. length numbers ≡ 10)) sides
-    → AreNumbered k (side_known k sides)
+-- a side object that is given has ten numbers
+abbrev HasTen : Option Numbers → Type 0
+HasTen side = IfSome side (λ numbers. length numbers ≡ 10)
+
+sides_numbered : (k : ℕ) (sides : List (Option Numbers)) → All HasTen sides → AreNumbered k (side_known k sides)
 sides_numbered k [] h = tt
-sides_numbered k (None ∷ sides) h =
-    sides_numbered k sides (All-tail (λ (side : Option Numbers). IfSome side (λ numbers. length numbers ≡ 10))
-    None sides h)
+sides_numbered k (None ∷ sides) h = sides_numbered k sides (All-tail HasTen None sides h)
 sides_numbered k (Some numbers ∷ sides) h = (
   record {
     is = refl;
     stamp = refl;
-    sized = record {
-      four = refl;
-      ten = All-head (λ (side : Option Numbers). IfSome side (λ numbers. length numbers ≡ 10)) (Some numbers)
-          sides h;
-    };
+    sized = record { four = refl; ten = All-head HasTen (Some numbers) sides h };
   },
-  sides_numbered (k + 1) sides
-      (All-tail (λ (side : Option Numbers). IfSome side (λ numbers. length numbers ≡ 10)) (Some numbers) sides
-      h),
+  sides_numbered (k + 1) sides (All-tail HasTen (Some numbers) sides h),
 )
 
 side_count-some : (numbers : Numbers) (sides : List (Option Numbers))
@@ -255,7 +249,13 @@ module _ {U : Type 0} (lawful : U → PlainStore → Type 0) (allowed : U → Pl
         (q * g.shape.regions + 0)
     row_used q =
         let more = mul-lt 0 0 q g.shape.regions in let fit = g.shape.regions_fit in
-        grind (arith, nat_tests, common_steps, used_first g.start sized (q * g.shape.regions + 0), used_other g.start sized (q * g.shape.regions + 0))
+        grind (
+          arith,
+          nat_tests,
+          common_steps,
+          used_first g.start sized (q * g.shape.regions + 0),
+          used_other g.start sized (q * g.shape.regions + 0),
+        )
 
     -- caller 0 has published all
     abbrev own_list : ℕ → List Known

@@ -23,7 +23,8 @@ apart_with [] None h f = tt
 apart_with [] (Some n) h f = (refl, tt)
 apart_with (k ∷ ks) o h f = (
   list_any-append (is_version k) ks (listed o)
-      ∙ (ap (λ (b : Bool). b || list_any (is_version k) (listed o)) h.0 ∙ none_else o (λ n. f k n (contains_here k k ks refl))),
+      ∙ (ap (λ (b : Bool). b || list_any (is_version k) (listed o)) h.0
+      ∙ none_else o (λ n. f k n (contains_here k k ks refl))),
   apart_with ks o h.1 (λ m n there. f m n (contains_behind m k ks there)),
 )
   where
@@ -70,7 +71,11 @@ module _ {U : Type 0} (lawful : U → PlainStore → Type 0) (allowed : U → Pl
   stored_cases : (i word j w : ℕ) → IsWritten (set p.draft.written i (Some word)) j w → i < 16
       → ((j ≡ i) × (word ≡ w)) ⊎ ((j ≢ i) × IsWritten p.draft.written j w)
   stored_cases i word j w is low = let wide = mine.draft.wide in
-      grind (arith, get_or-set_same p.draft.written i (Some word) None, get_or-set_other p.draft.written i j (Some word) None)
+      grind (
+        arith,
+        get_or-set_same p.draft.written i (Some word) None,
+        get_or-set_other p.draft.written i j (Some word) None,
+      )
 
   -- words that were written are there still, where nothing else is moved
   as_before : (words : List ℕ) → words ≡ h.words → p.draft.used + 0 < s.versions → (j w : ℕ)
@@ -172,14 +177,27 @@ module _ {U : Type 0} (lawful : U → PlainStore → Type 0) (allowed : U → Pl
       let same : published_of (hands_after p.hands m x found) ≡ listed_with new =
       sym (append_assoc p.hands.left p.hands.own (listed new)) in
       record {
-        held = λ k there. grind (arith, held_cases (with_held (without p.hands.held m.let_go) found) new k there,
-            held_cases (without p.hands.held m.let_go) found k, without_held p.hands.held m.let_go k,
-            mine.hands.held k, index_more h.index new k fresh, index_here h.index new k,
-            from_some (IsPublished h.index) found k);
-        own = λ k there. grind (arith, listed_cases (published_of p.hands) new k, there, same,
-            mine.hands.own k, still_own p.number new k fresh, index_here h.index new k,
-            fresh_own (index_with h.index new) k,
-            from_some (λ n. (n.version ≡ next_version p) × HasRoom p) new k);
+        held = λ k there. grind (
+          arith,
+          held_cases (with_held (without p.hands.held m.let_go) found) new k there,
+          held_cases (without p.hands.held m.let_go) found k,
+          without_held p.hands.held m.let_go k,
+          mine.hands.held k,
+          index_more h.index new k fresh,
+          index_here h.index new k,
+          from_some (IsPublished h.index) found k,
+        );
+        own = λ k there. grind (
+          arith,
+          listed_cases (published_of p.hands) new k,
+          there,
+          same,
+          mine.hands.own k,
+          still_own p.number new k fresh,
+          index_here h.index new k,
+          fresh_own (index_with h.index new) k,
+          from_some (λ n. (n.version ≡ next_version p) × HasRoom p) new k,
+        );
         all = λ k own. subst (λ (l : List Known). Contains l k) (sym same) (own_more new k own);
         once = subst AreApart (sym same) (apart_with (published_of p.hands) new mine.hands.once
             (λ k n there e. not_the_one h.index n k (from_some (λ f. h.index f.version.0 ≡ None) new n e fresh)
@@ -327,10 +345,13 @@ module _ {U : Type 0} (lawful : U → PlainStore → Type 0) (allowed : U → Pl
     their_own : (o : Option Known) → IfSome o (λ f. (f.version ≡ next_version p) × HasRoom p) → (k : Known)
         → IsOwn s q.number (index_with h.index o) k → Contains (published_of q.hands) k
     their_own None f k own = theirs.hands.all k own
-    their_own (Some m) f k own = grind (arith, published_either h.index m k own.published,
-        λ (is : k.version ≡ next_version p). not_theirs k own.region own.place is f.1 own.at,
-        λ (t : IsPublished h.index k). theirs.hands.all k
-        (record { published = t; region = own.region; place = own.place; at = own.at }))
+    their_own (Some m) f k own = grind (
+      arith,
+      published_either h.index m k own.published,
+      λ (is : k.version ≡ next_version p). not_theirs k own.region own.place is f.1 own.at,
+      λ (t : IsPublished h.index k). theirs.hands.all k
+          (record { published = t; region = own.region; place = own.place; at = own.at }),
+    )
 
     -- a caller that makes no move
     pub other_part : (act : Act) → May act → (x : ℕ) → (after : List Entry)

@@ -168,8 +168,13 @@ module _ (s : Shape) (index : Index) (places : Places) (row : ℕ) (k : Known)
     sized = λ m there. grind (arith, published_either index k m there, placed.sized m);
     fits = λ m there. let small = fresh_small in grind (arith, published_either index k m there, placed.fits m);
     taken = λ r i low little. grind (arith, common_steps, nat_tests, placed.taken r i low);
-    unused = λ r i low little past. grind (arith, common_steps, nat_tests, placed.unused r i low little,
-        same_row r row s.versions i (used row) little room);
+    unused = λ r i low little past. grind (
+      arith,
+      common_steps,
+      nat_tests,
+      placed.unused r i low little,
+      same_row r row s.versions i (used row) little room,
+    );
     filled = λ r. let h = placed.filled r in grind (arith, common_steps, nat_tests);
   }
 
