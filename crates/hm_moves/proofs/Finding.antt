@@ -58,9 +58,7 @@ module _ (index : Index) where
   -- what was published is so
   pub index_here : (o : Option Known) (k : Known) → o ≡ Some k → IsPublished (index_with index o) k
   index_here None k e = cc
-  index_here (Some m) k e =
-      let is : m ≡ k = cc in
-      subst (λ (z : Known). IsPublished (with_one index z) k) (sym is) (published_here index k)
+  index_here (Some m) k e = grind (arith, published_here index k)
 
   pub new_now : (o : Option Known) → IfSome o (IsPublished (index_with index o))
   new_now None = tt

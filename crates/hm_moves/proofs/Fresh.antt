@@ -43,10 +43,10 @@ stored_at k [] i m h e = absurd (cc)
 stored_at k (x ∷ xs) zero m h e = let same = is_same-self x.name in grind (arith, common_steps)
 stored_at k (x ∷ xs) (suc i) m h e =
     let this = numbered_at (k + 1) xs i m h.1 e in
-    let first : x.name.count ≡ k = ap (λ (z : Known). z.name.count) h.0.is in
-    let second : m.name.count ≡ (k + 1) + i = ap (λ (z : Known). z.name.count) this.is in
-    let apart : x.name ≢ m.name = λ z. let same = ap (λ (n : Name). n.count) z in omega arith in
-    rw (is_same-other x.name m.name apart) (stored_at (k + 1) xs i m h.1 e)
+    let first = ap (λ (z : Known). z.name.count) h.0.is in
+    let second = ap (λ (z : Known). z.name.count) this.is in
+    rw (is_same-other x.name m.name (λ z. let same = ap (λ (n : Name). n.count) z in omega arith))
+    (stored_at (k + 1) xs i m h.1 e)
 
 -- a side object that is given has ten numbers
 abbrev HasTen : Option Numbers → Type 0
@@ -127,8 +127,7 @@ module _ (start : Start) (sized : IsSizedStart start) where
       ∙ sym (map-append (λ (m : Known). (m.name, m.contents)) (side_known 0 start.sides) (common_known start ∷ [])))
 
   pub known_at : (k : Known) → IsPublished (fresh_index start) k → IsNumbered k.version.0 k
-  known_at k there = let at : 0 + k.version.0 ≡ k.version.0 = omega arith in
-      subst (λ (j : ℕ). IsNumbered j k) at (numbered_at 0 (all_known start) k.version.0 k numbered there)
+  known_at k there = grind (arith, numbered_at 0 (all_known start) k.version.0 k numbered there)
 
   present : (k : Known) → IsPublished (fresh_index start) k
       → contents_of (store_of (opening_of start)) k.name ≡ Some k.contents
