@@ -19,10 +19,7 @@ module _ (s : Shape) (h : Heap) (chains : KeepsChains s h) (done : ℕ) (ranks :
   -- so a version that n links lead to has a rank greater by n at least
   climbs : (n : ℕ) (k last : Known) → IsPublished h.index k → Links s h n k last
       → IsPublished h.index last × (k.rank + n ≤ last.rank)
-  climbs zero k last is l = (
-    subst (IsPublished h.index) l is,
-    let e : k.rank ≡ last.rank = ap (λ (m : Known). m.rank) l in omega arith,
-  )
+  climbs zero k last is l = (grind arith, grind arith)
   climbs (suc n) k last is l =
       let rest = climbs n l.0 last l.1 l.3 in
       let step = rises k l.0 is l.1 l.2 in

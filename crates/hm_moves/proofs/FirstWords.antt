@@ -204,9 +204,8 @@ module _ (s : Shape) (start : Start) (sized : IsSizedStart start) (room : starti
         let four = h.four in
         let long = length-map k.contents.refs count_word in
         let at : 2 + i ≡ suc (suc i) = omega arith in
-        ap (λ (n : ℕ). get_or (known_words k) n 0) at
-        ∙ (get_or_append_left (map count_word k.contents.refs) k.contents.numbers 0 i (omega arith)
-        ∙ get_or-map count_word k.contents.refs i None 0 (omega arith))
+        let a = get_or_append_left (map count_word k.contents.refs) k.contents.numbers 0 i (omega arith) in
+        let b = get_or-map count_word k.contents.refs i None 0 (omega arith) in cc
 
     number_word : (k : Known) (i : ℕ) → IsSized k.contents.refs k.contents.numbers
         → get_or (known_words k) (6 + i) 0 ≡ get_or k.contents.numbers i 0

@@ -26,9 +26,7 @@ stored ms = map (λ m. (m.name, m.contents)) ms
 numbered_append : (k : ℕ) (xs ys : List Known) → AreNumbered k xs → AreNumbered (k + length xs) ys
     → AreNumbered k (xs ++ ys)
 numbered_append k [] ys h e = subst (λ (i : ℕ). AreNumbered i ys) (omega arith) e
-numbered_append k (x ∷ xs) ys h e =
-    let at : k + length (x ∷ xs) ≡ (k + 1) + length xs = omega arith in
-    (h.0, numbered_append (k + 1) xs ys h.1 (subst (λ (i : ℕ). AreNumbered i ys) at e))
+numbered_append k (x ∷ xs) ys h e = (h.0, numbered_append (k + 1) xs ys h.1 (grind arith))
 
 pub numbered_at : (k : ℕ) (ms : List Known) (i : ℕ) (m : Known) → AreNumbered k ms → slice_get ms i ≡ Some m
     → IsNumbered (k + i) m
