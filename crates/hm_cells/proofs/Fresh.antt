@@ -1,6 +1,6 @@
 -- The passes of a fresh heap.
 use Rattle.std.proofs.Common.{◌≡◌, ◌≢◌, ◌⊎◌, ◌<◌, ◌≤◌, ◌+◌, ◌*◌, ℕ, zero, suc, Bool, true, false, cond, is_some, eqb, eq-eqb, ne_eqb, List, [], ◌∷◌, ◌++◌, length, get_or, replicate, set, Option, Some, None, IfSome, All, refl, sym, ap, ◌∙◌, subst, arith, ⊎_elim, length-set, length-append}
-use Rattle.hm_cells.proofs.Words.{slice_get, some, get_elem?, length-replicate, All-set, All-replicate, TableId, Me, Seat, Version, version_at, Start, Entry, Numbers, PlainStore, opening_of, starting_count, IsSizedStart, Known, Site, Part, all_known}
+use Rattle.hm_cells.proofs.Words.{side_count, slice_get, some, get_elem?, length-replicate, All-set, All-replicate, TableId, Me, Seat, Version, version_at, Start, Entry, Numbers, PlainStore, opening_of, starting_count, IsSizedStart, Known, Site, Part, all_known}
 use Rattle.hm_cells.proofs.Words.{common_known, fresh_part, side_known, Knowledge, Gripped, IsAmong, IsSound, IsSure, IsSeated, caller_in, facts_of, knowledge, first_roots, first_used, fresh_pass, newcomer, many, numbered, numbered_at}
 use Rattle.std.proofs.lemmas.List.Sums.{sum_by-cons}
 use Rattle.hm_cells.specs.Shows.{to_first}
@@ -12,6 +12,16 @@ first_rooted start =
     All-set P (replicate 256 None) 0 (Some (common_known start).version)
     (there_found (common_known start ∷ []) (common_known start) (0, (omega arith), refl))
     (All-replicate P 256 None tt)
+
+-- the grip of a fresh pass names the common object's version at its first root place alone
+pub first_grip : {U : Type 0} (start : Start) (site : Site U) (made grip : Gripped U) (n : ℕ)
+    → made ≡ record { site = site; roots = replicate 256 None; hand = [] }
+    → grip ≡ record made { roots = set made.roots 0 (Some (record { 0 = n })) } → n ≡ side_count start.sides
+    → (grip.roots ≡ first_roots start) × (grip.hand ≡ [])
+first_grip {U} start site made grip n is then number = (
+  ap (λ (x : Gripped U). x.roots) then ∙ (λ i. set (is i).roots 0 (Some (record { 0 = number i }))),
+  ap (λ (x : Gripped U). x.hand) then ∙ ap (λ (x : Gripped U). x.hand) is,
+)
 
 module _ {U : Type 0} (lawful : U → PlainStore → Type 0) (allowed : U → PlainStore → Entry
     → Type 0) (g : Site U) (z : TableId)

@@ -199,19 +199,22 @@ module _ {U : Type 0} (lawful : U → PlainStore → Type 0) (allowed : U → Pl
     none_now = slots ∙ (ap (λ (m : Me (Unit {0}) (Knowledge U)). m.1) met_is ∙ seated.none)
 
     pub met_seated : IsSeated lawful allowed seat' (facts_of seat' grip) shape number to used
-    met_seated = seated_now seat seat' grip shape number to used seated both 2 there_now sees_now counts_now sure_now table none_now
+    met_seated = seated_now seat seat' grip shape number to used seated both 2 there_now sees_now counts_now
+        sure_now table none_now
 
     -- the pass goes on
     pub meets_now : Meets lawful allowed pass other.view.seen (facts_of seat' grip)
     meets_now =
-        let is = rested_is seat seat' grip shape number to used seated both 2 there_now sees_now counts_now sure_now table none_now in
+        let is = rested_is seat seat' grip shape number to used seated both 2 there_now sees_now counts_now
+        sure_now table none_now in
         let begins : Begins pass.seen (longer pass.seen both) =
         subst (λ (l : List Entry). Begins pass.seen (longer pass.seen l)) sees_met
         (subst (λ (l : List Entry). Begins l (longer l before.me.0.view.seen))
         (ap (λ (m : Me (Unit {0}) (Knowledge U)). m.0.before) met_is) looked.begins) in
         record {
           is = is;
-          names = names_now seat seat' grip shape number to used seated both 2 there_now sees_now counts_now sure_now table none_now;
+          names = names_now seat seat' grip shape number to used seated both 2 there_now sees_now counts_now
+              sure_now table none_now;
           goes = subst (λ (f : Facts U). Rattle.hm_model.specs.Sight.Goes lawful allowed (sight_of pass)
               (sight_of f) []) (sym is)
               (goes_on lawful allowed (sight_of pass) (sight_of (rested pass both 2))

@@ -9,9 +9,6 @@ use Rattle.hm_cells.proofs.Found.{IsNamed, among, at_place, found_first, idle_ot
 use Rattle.hm_cells.proofs.Ready.{known_look, look_fit}
 
 -- a word of a version, by which act it is loaded
-pub stamp_look : (k : Known) → field_look k 1 ≡ LoadStamp k
-stamp_look k = refl
-
 pub reference_look : (k : Known) (i : ℕ) → i < 4 → field_look k (2 + i) ≡ LoadReference k i
 reference_look k i low = field_cases (λ l. l ≡ LoadReference k i) k (2 + i) (omega arith) (omega arith)
     (λ e. absurd (omega arith))
@@ -172,7 +169,8 @@ module _ {U : Type 0} (lawful : U → PlainStore → Type 0) (allowed : U → Pl
     written_is = ap (λ (f : Facts U). f.part.draft.written) took.is
 
     -- such a word stays written, where the act publishes nothing and stores another word or none
-    pub written_stays : (j w : ℕ) → publishes act x ≡ None → ((i word : ℕ) → act ≡ Builds (StoreOwn i word) → i ≢ j)
+    pub written_stays : (j w : ℕ) → publishes act x ≡ None
+        → ((i word : ℕ) → act ≡ Builds (StoreOwn i word) → i ≢ j)
         → IsWritten s.part.draft.written j w → IsSafe j w → IsWritten t.part.draft.written j w
     written_stays j w none other was safe =
         subst (λ (l : List (Option ℕ)). IsWritten l j w) (sym written_is)

@@ -87,9 +87,7 @@ module _ (s : Shape) (words words' : List ℕ) (index : Index) (store store' : P
     -- a last version of the object is the one that it was hung on
     only_last : (m : Known) → IsPublished index m → m.name ≡ at.name → link_of s words m ≡ 0 → m ≡ at
     only_last m p e z =
-        let a = h.top at m there p e last in
-        let b = h.top m at p there (sym e) z in
-        h.apart at m there p e (omega arith)
+        grind (arith, h.top at m there p e last, h.top m at p there, h.apart at m there p e)
 
     -- of versions from before, only that one is no longer the last
     still_last : (m : Known) → IsPublished index m → m.version.0 ≢ at.version.0 → link_of s words' m ≡ 0
@@ -120,31 +118,29 @@ module _ (s : Shape) (words words' : List ℕ) (index : Index) (store store' : P
       link = λ m p. either (λ (x : Known). IsLinked (with_one index k) store' x (link_of s words' x)) m p
           own_link
           (old_linked m);
-      top = λ m n p q e z. ⊎_elim
-          (λ (t : k ≡ m). let mk : k.rank ≡ m.rank = ap (λ (x : Known). x.rank) t in ⊎_elim
-          (λ (r : k ≡ n). let nk : k.rank ≡ n.rank = ap (λ (x : Known). x.rank) r in omega arith)
-          (λ (r : Old n).
-          let a = h.top at n there r.1 (e ∙ (ap (λ (x : Known). x.name) (sym t) ∙ name)) last in omega arith)
-          (published_either index k n q))
-          (λ (t : Old m). dite (ℕ_discrete m.version.0 at.version.0)
-          (λ e. let l : link_of s words' m ≡ naming_word (Some k.version) =
-          ap (λ (x : Known). link_of s words' x) (published_once index at m there t.1 e) ∙ hung in
-          absurd (omega arith))
-          (λ d. ⊎_elim
-          (λ (r : k ≡ n). absurd (still_last m t.1 d z (sym name ∙ (ap (λ (x : Known). x.name) r ∙ e))))
-          (λ (r : Old n). h.top m n t.1 r.1 e (sym (same m t.1 d) ∙ z)) (published_either index k n q)))
-          (published_either index k m p);
-      apart = λ m n p q e z. ⊎_elim
-          (λ (t : k ≡ m). let mk : k.rank ≡ m.rank = ap (λ (x : Known). x.rank) t in ⊎_elim
-          (λ (r : k ≡ n). sym r ∙ t)
-          (λ (r : Old n).
-          let a = h.top at n there r.1 (e ∙ (ap (λ (x : Known). x.name) (sym t) ∙ name)) last in
-          absurd (omega arith))
-          (published_either index k n q))
-          (λ (t : Old m). ⊎_elim
-          (λ (r : k ≡ n). let nk : k.rank ≡ n.rank = ap (λ (x : Known). x.rank) r in
-          let a = h.top at m there t.1 (sym e ∙ (ap (λ (x : Known). x.name) (sym r) ∙ name)) last in
-          absurd (omega arith))
-          (λ (r : Old n). h.apart m n t.1 r.1 e z) (published_either index k n q))
-          (published_either index k m p);
+      top = λ m n p q e z. dite (ℕ_discrete m.version.0 at.version.0)
+          (λ same_number. grind (
+            arith,
+            published_either index k m p,
+            published_either index k n q,
+            published_once index at m there,
+            h.top at n there,
+          ))
+          (λ d. grind (
+            arith,
+            published_either index k m p,
+            published_either index k n q,
+            h.top at n there,
+            still_last m,
+            h.top m n,
+            same m,
+          ));
+      apart = λ m n p q e z. grind (
+        arith,
+        published_either index k m p,
+        published_either index k n q,
+        h.top at n there,
+        h.top at m there,
+        h.apart m n,
+      );
     }

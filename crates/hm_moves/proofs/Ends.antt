@@ -2,7 +2,7 @@
 use Rattle.std.proofs.Common.{◌≡◌, ◌≤◌, ◌<◌, ◌+◌, ℕ, zero, suc, Some, refl, sym, ap, ◌∙◌, subst, arith}
 use Rattle.hm_moves.proofs.Words.{Shape, naming_word, Known, Heap, row_count, total, rank_limit, IsPublished, link_of, IsForward, KeepsChains, KeepsRanks}
 use Rattle.hm_moves.specs.Ends.{ChainsEnd, EndsAfter, Links}
-use Rattle.hm_moves.proofs.Placed.{made_small}
+use Rattle.hm_moves.proofs.Placed.{published_once, made_small}
 
 module _ (s : Shape) (h : Heap) (chains : KeepsChains s h) (done : ℕ) (ranks : KeepsRanks s h done) where
   -- the published version that a link names has a greater rank
@@ -13,19 +13,13 @@ module _ (s : Shape) (h : Heap) (chains : KeepsChains s h) (done : ℕ) (ranks :
       go : (w : ℕ) → IsForward h.index k w → w ≡ naming_word (Some next.version) → k.rank < next.rank
       go zero f e = absurd (omega arith)
       go (suc v) f e =
-          let number : f.0.version.0 ≡ next.version.0 = let n = f.1 in omega arith in
-          let both : Some f.0 ≡ Some next =
-          sym f.2.published ∙ (ap h.index number ∙ there) in
-          let same : f.0 ≡ next = cc in
-          subst (λ (m : Known). k.rank < m.rank) same f.2.rank
+          subst (λ (m : Known). k.rank < m.rank)
+          (published_once h.index next f.0 there f.2.published (let n = f.1 in omega arith)) f.2.rank
 
   -- so a version that n links lead to has a rank greater by n at least
   climbs : (n : ℕ) (k last : Known) → IsPublished h.index k → Links s h n k last
       → IsPublished h.index last × (k.rank + n ≤ last.rank)
-  climbs zero k last is l = (
-    subst (IsPublished h.index) l is,
-    let e : k.rank ≡ last.rank = ap (λ (m : Known). m.rank) l in omega arith,
-  )
+  climbs zero k last is l = (grind arith, grind arith)
   climbs (suc n) k last is l =
       let rest = climbs n l.0 last l.1 l.3 in
       let step = rises k l.0 is l.1 l.2 in

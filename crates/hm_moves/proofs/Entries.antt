@@ -6,10 +6,7 @@ use Rattle.std.specs.Option.{option_map}
 -- a changed object has what the change makes of it
 changed_here : (f : Contents → Contents) (store : PlainStore) (n m : Name) (x y : Contents) → n ≡ m
     → contents_of store m ≡ Some x → y ≡ f x → contents_of (with_changed f n store) m ≡ Some y
-changed_here f store n m x y e is to =
-    subst (λ (i : Name). contents_of (with_changed f n store) i ≡ Some y) e
-    (contents_of-changed f n store
-    ∙ (ap (option_map f) (ap (contents_of store) e ∙ is) ∙ ap (λ (z : Contents). Some z) (sym to)))
+changed_here f store n m x y e is to = let a = contents_of-changed f n store in cc
 
 -- and any other what it had
 changed_else : (f : Contents → Contents) (store : PlainStore) (n m : Name) → n ≡ m → (i : Name) → m ≢ i

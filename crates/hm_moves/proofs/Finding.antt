@@ -23,8 +23,7 @@ linked_found : (index : Index) (store : PlainStore) (at : Known) (x : ℕ) → I
     → IsLink at x (lookup index x) × IfSome (lookup index x) (IsPublished index)
 linked_found index store at zero h = (refl, tt)
 linked_found index store at (suc v) h =
-    let m : Known = h.0 in
-    let found : index v ≡ Some m = ap index (sym h.1) ∙ h.2.published in
+    let found : index v ≡ Some h.0 = ap index (sym h.1) ∙ h.2.published in
     subst (λ (o : Option Known). IsLink at (suc v) o × IfSome o (IsPublished index)) (sym found)
     ((let e = h.1 in omega arith, h.2.same, h.2.rank), h.2.published)
 
@@ -59,9 +58,7 @@ module _ (index : Index) where
   -- what was published is so
   pub index_here : (o : Option Known) (k : Known) → o ≡ Some k → IsPublished (index_with index o) k
   index_here None k e = cc
-  index_here (Some m) k e =
-      let is : m ≡ k = cc in
-      subst (λ (z : Known). IsPublished (with_one index z) k) (sym is) (published_here index k)
+  index_here (Some m) k e = grind (arith, published_here index k)
 
   pub new_now : (o : Option Known) → IfSome o (IsPublished (index_with index o))
   new_now None = tt

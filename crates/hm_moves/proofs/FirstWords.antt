@@ -3,6 +3,7 @@ use Rattle.std.proofs.Common.{◌≡◌, ◌<◌, ◌≤◌, ◌+◌, ◌-◌, �
 use Rattle.hm_moves.proofs.Words.{slice_get, flat_map, mul-lt, length-append, length-map, length-replicate, get_or_append_left, get_or-append-add, get_or-map, get_or-replicate, map-append, All-nil, All-cons, All-append, All-get_or, flat_map-append, get_or_from_slice_get, slice_get-get_or, slice_get_within, Shape, version_count, reply_at, roles_at, word_at, word_count, Name}
 use Rattle.hm_moves.proofs.Words.{Start, Refs, Numbers, IsSized, new_contents, side_names, starting_count, starting_name, IsSizedStart, Known, IsPublished, Refers, words_at, reference_at, only_to, row_count, starting_known, side_known, common_known, all_known, fresh_index, AreFirst, LaysSide, count_word, first_words, head_words, known_words, laid_words}
 use Rattle.hm_moves.proofs.Fresh.{AreNumbered, numbered_at, numbered, many, known_at}
+use Rattle.hm_moves.proofs.Placed.{versions_some}
 
 -- all side objects are laid, from number k on
 pub record AreLaid (before : List ℕ) (k : ℕ) (sides : List (Option Numbers)) (words after : List ℕ) : Type 0 where
@@ -30,31 +31,24 @@ pub one_laid : (before : List ℕ) (k : ℕ) (side : Option Numbers) (word : ℕ
     → AreLaid more next sides words after → AreLaid before k (side ∷ sides) (word ∷ words) after
 one_laid before k side word more next sides words after one rest =
     let here : List Known = side_known k (side ∷ []) in
-    record {
-      laid = rest.laid
-          ∙ ((λ i. one.words i ++ flat_map known_words (side_known (one.count i) sides))
-          ∙ (append_assoc before (flat_map known_words here)
-          (flat_map known_words (side_known (k + length here) sides))
-          ∙ ap (λ (l : List ℕ). before ++ l)
-          (sym (flat_map-append known_words here (side_known (k + length here) sides))
-          ∙ ap (flat_map known_words) (sym (first_known k side sides)))));
-      names = (λ i. word ∷ rest.names i)
-          ∙ (ap (λ (j : ℕ). word ∷ map count_word (side_names j sides)) one.count
-          ∙ (ap (λ (l : List ℕ). l ++ map count_word (side_names (k + length here) sides)) one.name
-          ∙ (sym (map-append count_word (side_names k (side ∷ [])) (side_names (k + length here) sides))
-          ∙ ap (map count_word) (sym (first_name k side sides)))));
-    }
+    let names : Refs = side_names k (side ∷ []) in
+    let a = append_assoc before (flat_map known_words here) (flat_map known_words (side_known (k + length here) sides)) in
+    let b = flat_map-append known_words here (side_known (k + length here) sides) in
+    let c = map-append count_word names (side_names (k + length here) sides) in
+    let known = first_known k side sides in
+    let name = first_name k side sides in
+    let laid = rest.laid in let words_are = one.words in let count = one.count in let word_is = one.name in
+    let names_are = rest.names in record { laid = cc; names = cc }
 
 -- the common object's version comes last
 pub all_laid : (start : Start) (before words after : List ℕ) → AreLaid before 0 start.sides words after
     → after ++ (0 ∷ 0 ∷ words ++ start.numbers) ≡ before ++ flat_map known_words (all_known start)
 all_laid start before words after h =
     let sides : List ℕ = flat_map known_words (side_known 0 start.sides) in
-    (λ i. h.laid i ++ (0 ∷ 0 ∷ h.names i ++ start.numbers))
-    ∙ (append_assoc before sides (known_words (common_known start))
-    ∙ ap (λ (l : List ℕ). before ++ l)
-    (ap (λ (l : List ℕ). sides ++ l) (sym (append-nil (known_words (common_known start))))
-    ∙ sym (flat_map-append known_words (side_known 0 start.sides) (common_known start ∷ []))))
+    let a = append_assoc before sides (known_words (common_known start)) in
+    let b = append-nil (known_words (common_known start)) in
+    let c = flat_map-append known_words (side_known 0 start.sides) (common_known start ∷ []) in
+    let laid = h.laid in let names = h.names in cc
 
 -- a name is of one of the first n starting objects
 record IsBelow (n : ℕ) (name : Name) : Type 0 where
@@ -119,11 +113,8 @@ word_of_place k (x ∷ ms) rest zero j m h e low =
     let is : x ≡ m = cc in
     let wide = words_wide x h.0.sized in
     let at : 16 * 0 + j ≡ j = omega arith in
-    ap (λ (l : List ℕ). get_or l (16 * 0 + j) 0)
-    (append_assoc (known_words x) (flat_map known_words ms) rest)
-    ∙ (ap (λ (n : ℕ). get_or (known_words x ++ (flat_map known_words ms ++ rest)) n 0) at
-    ∙ (get_or_append_left (known_words x) (flat_map known_words ms ++ rest) 0 j (omega arith)
-    ∙ ap (λ (z : Known). get_or (known_words z) j 0) is))
+    let a = append_assoc (known_words x) (flat_map known_words ms) rest in
+    let b = get_or_append_left (known_words x) (flat_map known_words ms ++ rest) 0 j (omega arith) in cc
 word_of_place k (x ∷ ms) rest (suc i) j m h e low =
     let wide = words_wide x h.0.sized in
     let at : 16 * suc i + j ≡ length (known_words x) + (16 * i + j) = omega arith in
@@ -132,10 +123,6 @@ word_of_place k (x ∷ ms) rest (suc i) j m h e low =
     ∙ (ap (λ (n : ℕ). get_or (known_words x ++ (flat_map known_words ms ++ rest)) n 0) at
     ∙ (get_or-append-add (known_words x) (flat_map known_words ms ++ rest) (16 * i + j) 0
     ∙ word_of_place (k + 1) ms rest i j m h.1 e low))
-
-versions_some : (r v : ℕ) → 0 < r → v ≤ r * v
-versions_some zero v low = absurd (omega arith)
-versions_some (suc r) v low = omega (arith, suc-mul r v)
 
 module _ (s : Shape) (start : Start) (sized : IsSizedStart start) (room : starting_count start ≤ s.versions)
   where
@@ -197,21 +184,19 @@ module _ (s : Shape) (start : Start) (sized : IsSizedStart start) (room : starti
         let wide = zeros_wide in
         let long : length roles ≡ s.callers = length-replicate s.callers (only_to 0) in
         let at : roles_at s q ≡ length zeros + q = omega arith in
-        ap (λ (l : List ℕ). get_or l (roles_at s q) 0) parts
-        ∙ (ap (λ (n : ℕ). get_or (zeros ++ (roles ++ (laid ++ rest))) n 0) at
-        ∙ (get_or-append-add zeros (roles ++ (laid ++ rest)) q 0
-        ∙ (get_or_append_left roles (laid ++ rest) 0 q (omega arith)
-        ∙ get_or-replicate s.callers q (only_to 0) 0 low)))
+        let a = parts in
+        let b = get_or-append-add zeros (roles ++ (laid ++ rest)) q 0 in
+        let c = get_or_append_left roles (laid ++ rest) 0 q (omega arith) in
+        let d = get_or-replicate s.callers q (only_to 0) 0 low in cc
 
     first_word : (k : Known) (j : ℕ) → IsPublished (fresh_index start) k → j < 16
         → words_at s (first_words s start) k j ≡ get_or (known_words k) j 0
     first_word k j there low =
         let c = head_wide in
         let at : word_at s k.version j ≡ length (head_words s) + (16 * k.version.0 + j) = omega arith in
-        ap (λ (l : List ℕ). get_or l (word_at s k.version j) 0) (append_assoc (head_words s) laid rest)
-        ∙ (ap (λ (n : ℕ). get_or (head_words s ++ (laid ++ rest)) n 0) at
-        ∙ (get_or-append-add (head_words s) (laid ++ rest) (16 * k.version.0 + j) 0
-        ∙ word_of_place 0 (all_known start) rest k.version.0 j k (numbered start sized) there low))
+        let a = append_assoc (head_words s) laid rest in
+        let b = get_or-append-add (head_words s) (laid ++ rest) (16 * k.version.0 + j) 0 in
+        let d = word_of_place 0 (all_known start) rest k.version.0 j k (numbered start sized) there low in cc
 
     reference_word : (k : Known) (i : ℕ) → IsSized k.contents.refs k.contents.numbers → i < 4
         → get_or (known_words k) (2 + i) 0 ≡ count_word (reference_at k.contents i)
@@ -219,9 +204,8 @@ module _ (s : Shape) (start : Start) (sized : IsSizedStart start) (room : starti
         let four = h.four in
         let long = length-map k.contents.refs count_word in
         let at : 2 + i ≡ suc (suc i) = omega arith in
-        ap (λ (n : ℕ). get_or (known_words k) n 0) at
-        ∙ (get_or_append_left (map count_word k.contents.refs) k.contents.numbers 0 i (omega arith)
-        ∙ get_or-map count_word k.contents.refs i None 0 (omega arith))
+        let a = get_or_append_left (map count_word k.contents.refs) k.contents.numbers 0 i (omega arith) in
+        let b = get_or-map count_word k.contents.refs i None 0 (omega arith) in cc
 
     number_word : (k : Known) (i : ℕ) → IsSized k.contents.refs k.contents.numbers
         → get_or (known_words k) (6 + i) 0 ≡ get_or k.contents.numbers i 0
@@ -229,8 +213,7 @@ module _ (s : Shape) (start : Start) (sized : IsSizedStart start) (room : starti
         let four = h.four in
         let long = length-map k.contents.refs count_word in
         let at : 6 + i ≡ length (0 ∷ 0 ∷ map count_word k.contents.refs) + i = omega arith in
-        ap (λ (n : ℕ). get_or (known_words k) n 0) at
-        ∙ get_or-append-add (0 ∷ 0 ∷ map count_word k.contents.refs) k.contents.numbers i 0
+        let a = get_or-append-add (0 ∷ 0 ∷ map count_word k.contents.refs) k.contents.numbers i 0 in cc
 
     -- a starting object's name is of the version with its count
     refers : (o : Option Name) → IfSome o (IsBelow (length (all_known start)))

@@ -1,12 +1,12 @@
 -- A fresh machine is good.
-use Rattle.std.proofs.Common.{◌≡◌, ◌≢◌, ◌<◌, ◌≤◌, ◌+◌, ◌*◌, ◌==◌, ℕ, zero, suc, Bool, true, false, cond, is_some, eqb, eq-eqb, ne_eqb, List, [], ◌∷◌, ◌++◌, map, length, replicate, All, Option, Some, None, IfSome, Contains, if◌then◌else◌, refl, sym, ap, ◌∙◌, subst, arith, ⊎_elim, append-nil, append_assoc, suc-mul, IsSome}
-use Rattle.hm_moves.proofs.Words.{slice_get, list_any, mul-lt, get_or_from_slice_get, slice_get_past, slice_get_within, slice_get-get_or, All-nil, All-cons, All-head, All-tail, ℕ_discrete, dite, Shape, Version, IsAt, word_count, Name, Contents, Start, Entry, Create, Numbers, IsSized, PlainStore, contents_of, caller_of}
+use Rattle.std.proofs.Common.{◌≡◌, ◌≢◌, ◌<◌, ◌≤◌, ◌+◌, ◌*◌, ◌==◌, ℕ, zero, suc, false, cond, is_some, eq-eqb, ne_eqb, List, [], ◌∷◌, ◌++◌, map, length, replicate, All, Option, Some, None, IfSome, Contains, if◌then◌else◌, refl, sym, ap, ◌∙◌, subst, arith, ⊎_elim, append-nil, append_assoc, suc-mul, IsSome}
+use Rattle.hm_moves.proofs.Words.{length-append, map-append, nat_tests, common_steps, slice_get, list_any, mul-lt, get_or_from_slice_get, slice_get_past, slice_get_within, slice_get-get_or, All-nil, All-cons, All-head, All-tail, ℕ_discrete, dite, Shape, Version, IsAt, word_count, Name, Contents, Start, Entry, Create, Numbers, IsSized, PlainStore, contents_of, caller_of}
 use Rattle.hm_moves.proofs.Words.{new_contents, effect_of, store_after, store_of, common_name, opening_of, side_count, side_entries, side_names, starting_count, starting_name, IsSizedStart, is_same-self, is_same-other, there_contents, store_after-append, Known, Site, Index, IsPublished, AreTrue, AreChained, IsLinked}
 use Rattle.hm_moves.proofs.Words.{link_of, Heap, ArePlaced, row_count, total, AreRanked, HasHead, IsOwn, Places, Begins, AreBelow, HeapIsGood, PartIsGood, Core, Good, AreApart, starting_known, side_known, common_known, all_known, fresh_index, fresh_used, fresh_part, IsFreshCore, fresh_places}
 use Rattle.std.proofs.lemmas.List.Sums.{sum_by-cons}
 use Rattle.hm_model.proofs.Openings.{lawful_opening}
 use Rattle.hm_moves.proofs.Histories.{below-append, begins_self}
-use Rattle.hm_moves.proofs.Placed.{published_once, place_small, same_row}
+use Rattle.hm_moves.proofs.Placed.{versions_some, published_once, place_small, same_row}
 use Rattle.hm_moves.proofs.Held.{none_written, contains_first}
 
 -- versions are numbered from k on, each the first of its object
@@ -26,56 +26,40 @@ stored ms = map (λ m. (m.name, m.contents)) ms
 numbered_append : (k : ℕ) (xs ys : List Known) → AreNumbered k xs → AreNumbered (k + length xs) ys
     → AreNumbered k (xs ++ ys)
 numbered_append k [] ys h e = subst (λ (i : ℕ). AreNumbered i ys) (omega arith) e
-numbered_append k (x ∷ xs) ys h e =
-    let at : k + length (x ∷ xs) ≡ (k + 1) + length xs = omega arith in
-    (h.0, numbered_append (k + 1) xs ys h.1 (subst (λ (i : ℕ). AreNumbered i ys) at e))
+numbered_append k (x ∷ xs) ys h e = (h.0, numbered_append (k + 1) xs ys h.1 (grind arith))
 
 pub numbered_at : (k : ℕ) (ms : List Known) (i : ℕ) (m : Known) → AreNumbered k ms → slice_get ms i ≡ Some m
     → IsNumbered (k + i) m
 numbered_at k [] i m h e = absurd (cc)
-numbered_at k (x ∷ xs) zero m h e =
-    let is : x ≡ m = cc in
-    let at : k ≡ k + 0 = omega arith in
-    subst (λ (j : ℕ). IsNumbered j m) at (subst (IsNumbered k) is h.0)
-numbered_at k (x ∷ xs) (suc i) m h e =
-    let at : (k + 1) + i ≡ k + suc i = omega arith in
-    subst (λ (j : ℕ). IsNumbered j m) at (numbered_at (k + 1) xs i m h.1 e)
+numbered_at k (x ∷ xs) zero m h e = grind arith
+numbered_at k (x ∷ xs) (suc i) m h e = grind (arith, numbered_at (k + 1) xs i m h.1 e)
 
 -- the store has each under its name
 stored_at : (k : ℕ) (ms : List Known) (i : ℕ) (m : Known) → AreNumbered k ms → slice_get ms i ≡ Some m
     → contents_of (stored ms) m.name ≡ Some m.contents
 stored_at k [] i m h e = absurd (cc)
-stored_at k (x ∷ xs) zero m h e =
-    let is : x ≡ m = cc in
-    subst (λ (z : Known). contents_of (stored (x ∷ xs)) z.name ≡ Some z.contents) is
-    (rw (is_same-self x.name) refl)
+stored_at k (x ∷ xs) zero m h e = let same = is_same-self x.name in grind (arith, common_steps)
 stored_at k (x ∷ xs) (suc i) m h e =
     let this = numbered_at (k + 1) xs i m h.1 e in
-    let first : x.name.count ≡ k = ap (λ (z : Known). z.name.count) h.0.is in
-    let second : m.name.count ≡ (k + 1) + i = ap (λ (z : Known). z.name.count) this.is in
-    let apart : x.name ≢ m.name = λ z. let same = ap (λ (n : Name). n.count) z in omega arith in
-    rw (is_same-other x.name m.name apart) (stored_at (k + 1) xs i m h.1 e)
+    let first = ap (λ (z : Known). z.name.count) h.0.is in
+    let second = ap (λ (z : Known). z.name.count) this.is in
+    rw (is_same-other x.name m.name (λ z. let same = ap (λ (n : Name). n.count) z in omega arith))
+    (stored_at (k + 1) xs i m h.1 e)
 
-sides_numbered : (k : ℕ) (sides : List (Option Numbers)) → All
-    (λ side. IfSome side (λ numbers. length numbers ≡ 10)) sides
-    → AreNumbered k (side_known k sides)
+-- a side object that is given has ten numbers
+abbrev HasTen : Option Numbers → Type 0
+HasTen side = IfSome side (λ numbers. length numbers ≡ 10)
+
+sides_numbered : (k : ℕ) (sides : List (Option Numbers)) → All HasTen sides → AreNumbered k (side_known k sides)
 sides_numbered k [] h = tt
-sides_numbered k (None ∷ sides) h =
-    sides_numbered k sides (All-tail (λ (side : Option Numbers). IfSome side (λ numbers. length numbers ≡ 10))
-    None sides h)
+sides_numbered k (None ∷ sides) h = sides_numbered k sides (All-tail HasTen None sides h)
 sides_numbered k (Some numbers ∷ sides) h = (
   record {
     is = refl;
     stamp = refl;
-    sized = record {
-      four = refl;
-      ten = All-head (λ (side : Option Numbers). IfSome side (λ numbers. length numbers ≡ 10)) (Some numbers)
-          sides h;
-    };
+    sized = record { four = refl; ten = All-head HasTen (Some numbers) sides h };
   },
-  sides_numbered (k + 1) sides
-      (All-tail (λ (side : Option Numbers). IfSome side (λ numbers. length numbers ≡ 10)) (Some numbers) sides
-      h),
+  sides_numbered (k + 1) sides (All-tail HasTen (Some numbers) sides h),
 )
 
 side_count-some : (numbers : Numbers) (sides : List (Option Numbers))
@@ -102,10 +86,6 @@ sides_stored s k (Some numbers ∷ sides) =
     let p : Name × Contents = (starting_name k, new_contents (replicate 4 None) numbers) in
     sides_stored (s ++ p ∷ []) (k + 1) sides ∙ append_assoc s (p ∷ []) (stored (side_known (k + 1) sides))
 
-stored_push : (xs : List Known) (m : Known) → stored (xs ++ m ∷ []) ≡ stored xs ++ (m.name, m.contents) ∷ []
-stored_push [] m = refl
-stored_push (x ∷ xs) m = ap (λ (l : PlainStore). (x.name, x.contents) ∷ l) (stored_push xs m)
-
 slice_get_some : (xs : List Known) (i : ℕ) → i < length xs → IsSome (slice_get xs i)
 slice_get_some [] i low = absurd (omega arith)
 slice_get_some (x ∷ xs) zero low = refl
@@ -113,10 +93,6 @@ slice_get_some (x ∷ xs) (suc i) low = slice_get_some xs i (omega arith)
 
 slice_get_contains : (xs : List Known) (i : ℕ) (m : Known) → slice_get xs i ≡ Some m → Contains xs m
 slice_get_contains xs i m h = (i, slice_get_within xs i m h, get_or_from_slice_get xs i m m h)
-
-push_length : (xs : List Known) (m : Known) → length (xs ++ m ∷ []) ≡ length xs + 1
-push_length [] m = refl
-push_length (x ∷ xs) m = let rest = push_length xs m in omega arith
 
 get_last : (xs : List Known) (m : Known) → slice_get (xs ++ m ∷ []) (length xs) ≡ Some m
 get_last [] m = refl
@@ -137,7 +113,7 @@ module _ (start : Start) (sized : IsSizedStart start) where
 
   pub many : length (all_known start) ≡ starting_count start
   many =
-      let a = push_length (side_known 0 start.sides) (common_known start) in
+      let a = length-append (side_known 0 start.sides) (common_known start ∷ []) in
       let b = sides_length 0 start.sides in omega arith
 
   -- the store has just these
@@ -146,11 +122,10 @@ module _ (start : Start) (sized : IsSizedStart start) where
       let e : Entry = Create 0 (common_name start) (side_names 0 start.sides) start.numbers in
       store_after-append [] (side_entries 0 start.sides) (e ∷ [])
       ∙ (ap (λ (s : PlainStore). effect_of s e) (sides_stored [] 0 start.sides)
-      ∙ sym (stored_push (side_known 0 start.sides) (common_known start)))
+      ∙ sym (map-append (λ (m : Known). (m.name, m.contents)) (side_known 0 start.sides) (common_known start ∷ [])))
 
   pub known_at : (k : Known) → IsPublished (fresh_index start) k → IsNumbered k.version.0 k
-  known_at k there = let at : 0 + k.version.0 ≡ k.version.0 = omega arith in
-      subst (λ (j : ℕ). IsNumbered j k) at (numbered_at 0 (all_known start) k.version.0 k numbered there)
+  known_at k there = grind (arith, numbered_at 0 (all_known start) k.version.0 k numbered there)
 
   present : (k : Known) → IsPublished (fresh_index start) k
       → contents_of (store_of (opening_of start)) k.name ≡ Some k.contents
@@ -179,9 +154,7 @@ module _ (start : Start) (sized : IsSizedStart start) where
 
   total_some : (n : ℕ) → 0 < n → 0 < total (fresh_used start) n
   total_some zero h = absurd (omega arith)
-  total_some (suc n) h = dite (ℕ_discrete n 0)
-      (λ e. let one = used_first n e in omega arith)
-      (λ ne. let more = total_some n (omega arith) in omega arith)
+  total_some (suc n) h = grind (arith, used_first n, total_some n)
 
   -- the versions lie in the first row
   module _ (s : Shape) (room : starting_count start ≤ s.versions) where
@@ -195,26 +168,13 @@ module _ (start : Start) (sized : IsSizedStart start) where
           let long = many in
           let small = place_small 0 (row_count s) s.versions k.version.0 rows (omega arith) in omega arith;
       unused = λ row i below low past. slice_get_past (all_known start) (row * s.versions + i)
-          (dite (ℕ_discrete row 0)
-          (λ e. let one = used_first row e in let long = many in
-          let at : row * s.versions ≡ 0 * s.versions = ap (λ (r : ℕ). r * s.versions) e in omega arith)
-          (λ ne. let long = many in
-          let more : s.versions ≤ row * s.versions = row_more row ne in omega arith));
-      filled = λ row. dite (ℕ_discrete row 0)
-          (λ e. let one = used_first row e in omega arith)
-          (λ ne. let none = used_other row ne in omega arith);
-      taken = λ row i below low. dite (ℕ_discrete row 0)
-          (λ e. let one = used_first row e in let long = many in
-          let at : row * s.versions ≡ 0 * s.versions = ap (λ (r : ℕ). r * s.versions) e in
-          slice_get_some (all_known start) (row * s.versions + i) (omega arith))
-          (λ ne. let none = used_other row ne in absurd (omega arith));
+          (let long = many in let more = versions_some row s.versions in grind (arith, used_first row));
+      filled = λ row. grind (arith, used_first row, used_other row);
+      taken = λ row i below low. let long = many in
+          grind (arith, used_first row, used_other row, slice_get_some (all_known start) (row * s.versions + i));
       sized = λ k there. let h = known_at k there in
           let stamp = h.stamp in record { stamp = omega arith; contents = h.sized };
     }
-      where
-        row_more : (row : ℕ) → row ≢ 0 → s.versions ≤ row * s.versions
-        row_more zero ne = absurd (ne refl)
-        row_more (suc row) ne = omega (arith, suc-mul row s.versions)
 
     ranked : AreRanked s (fresh_index start) (fresh_places start) 0
     ranked = record {
@@ -284,13 +244,15 @@ module _ {U : Type 0} (lawful : U → PlainStore → Type 0) (allowed : U → Pl
 
     row_used : (q : ℕ) → (if q == 0 then starting_count g.start else 0) ≡ fresh_used g.start
         (q * g.shape.regions + 0)
-    row_used q = dite (ℕ_discrete q 0)
-        (λ e. rw (eq-eqb q 0 e) (sym (used_first g.start sized (q * g.shape.regions + 0)
-        (let at : q * g.shape.regions ≡ 0 * g.shape.regions = ap (λ (r : ℕ). r * g.shape.regions) e in omega
-        arith))))
-        (λ ne. rw (ne_eqb q 0 ne) (sym (used_other g.start sized (q * g.shape.regions + 0)
-        (λ z. let more = mul-lt 0 0 q g.shape.regions (omega arith) (omega (arith, g.shape.regions_fit)) in
-        omega arith))))
+    row_used q =
+        let more = mul-lt 0 0 q g.shape.regions in let fit = g.shape.regions_fit in
+        grind (
+          arith,
+          nat_tests,
+          common_steps,
+          used_first g.start sized (q * g.shape.regions + 0),
+          used_other g.start sized (q * g.shape.regions + 0),
+        )
 
     -- caller 0 has published all
     abbrev own_list : ℕ → List Known
@@ -338,11 +300,7 @@ module _ {U : Type 0} (lawful : U → PlainStore → Type 0) (allowed : U → Pl
             rw (ne_eqb x.version.0 n (λ z. omega arith)) (none_of n (j + 1) xs e.1 (omega arith))
 
     own_apart : (q : ℕ) → AreApart (own_list q)
-    own_apart q = go (eqb q 0)
-      where
-        go : (t : Bool) → AreApart (if t then all_known g.start else [])
-        go true = numbered_apart 0 (all_known g.start) (numbered g.start sized)
-        go false = tt
+    own_apart q = grind (arith, common_steps, numbered_apart 0 (all_known g.start) (numbered g.start sized))
 
     -- a version of another row than the first is not there
     first_row : (q region place : ℕ) (k : Known) → IsPublished (fresh_index g.start) k
@@ -363,9 +321,12 @@ module _ {U : Type 0} (lawful : U → PlainStore → Type 0) (allowed : U → Pl
         omega arith
 
     own_all : (q : ℕ) (k : Known) → IsOwn g.shape q (fresh_index g.start) k → Contains (own_list q) k
-    own_all q k own = dite (ℕ_discrete q 0)
-        (λ e. rw (eq-eqb q 0 e) (slice_get_contains (all_known g.start) k.version.0 k own.published))
-        (λ ne. absurd (first_row q own.region own.place k own.published own.at ne))
+    own_all q k own = grind (
+      arith,
+      nat_tests,
+      slice_get_contains (all_known g.start) k.version.0 k own.published,
+      first_row q own.region own.place k own.published own.at,
+    )
 
     part_good : (q : ℕ) → q < g.shape.callers → PartIsGood g heap (opening_of g.start) (fresh_part g q)
     part_good q low = record {

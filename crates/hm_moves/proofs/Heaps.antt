@@ -400,21 +400,6 @@ module _ {U : Type 0} (lawful : U → PlainStore → Type 0) (allowed : U → Pl
       })
       (sym (same_word h.words (word_of p (Looks l)) x is)) (read (where_zero (want_of l) x) r.0 r.1)
 
-  -- where an exchange finds a link, it leaves that
-  exchanged : (at k : Known) (o : Option Entry) → MayLink known make p at k o → (x : ℕ)
-      → x ≡ slice_index h.words (word_at s at.version 0)
-      → (w : Option Entry) → o ≡ w → Kept (heap_after h p (Builds (LinkStore at k w)) x)
-  exchanged at k o may zero is None e =
-      subst (λ (w : Option Entry). Kept (with_version
-      (slice_set h.words (word_at s at.version 0) (naming_word (Some k.version))) k (listed w)))
-      e (hung at k o may is)
-  exchanged at k o may zero is (Some w) e =
-      subst (λ (w : Option Entry). Kept (with_version
-      (slice_set h.words (word_at s at.version 0) (naming_word (Some k.version))) k (listed w)))
-      e (hung at k o may is)
-  exchanged at k o may (suc n) is None e = still (word_at s at.version 0) (suc n) is
-  exchanged at k o may (suc n) is (Some w) e = still (word_at s at.version 0) (suc n) is
-
   -- a move leaves a good heap
   pub heap_step : (act : Act) → MayTake known make p act → (x : ℕ)
       → x ≡ slice_index h.words (word_of p act) → Kept (heap_after h p act x)
@@ -425,4 +410,7 @@ module _ {U : Type 0} (lawful : U → PlainStore → Type 0) (allowed : U → Pl
         history = l;
       }) (sym (append-nil h.history)) (wrote i word may.below may.room)
   heap_step (Builds (Publish k)) may x is = published k may
-  heap_step (Builds (LinkStore at k o)) may x is = exchanged at k o may x is o refl
+  heap_step (Builds (LinkStore at k None)) may zero is = hung at k None may is
+  heap_step (Builds (LinkStore at k (Some e))) may zero is = hung at k (Some e) may is
+  heap_step (Builds (LinkStore at k None)) may (suc n) is = still (word_at s at.version 0) (suc n) is
+  heap_step (Builds (LinkStore at k (Some e))) may (suc n) is = still (word_at s at.version 0) (suc n) is

@@ -108,12 +108,12 @@ begins_longer xs ys h b d =
 
 -- either of two beginnings of one history begins the longer of them
 pub left_begins : (xs ys h : List Entry) → Begins xs h → Begins ys h → Begins xs (longer xs ys)
-left_begins xs ys h b d = elim (nat_lt (length xs) (length ys)) as (λ t. nat_lt (length xs) (length ys) ≡ t → Begins xs (if t then ys else xs))
-    [ true ↦ λ is. begins_shorter xs ys h b.rest d.rest b.is d.is (grind (arith, nat_tests)) | false ↦ λ is. begins_self xs ] refl
+left_begins xs ys h b d =
+    grind (arith, nat_tests, begins_shorter xs ys h b.rest d.rest b.is d.is, begins_self xs)
 
 pub right_begins : (xs ys h : List Entry) → Begins xs h → Begins ys h → Begins ys (longer xs ys)
-right_begins xs ys h b d = elim (nat_lt (length xs) (length ys)) as (λ t. nat_lt (length xs) (length ys) ≡ t → Begins ys (if t then ys else xs))
-    [ true ↦ λ is. begins_self ys | false ↦ λ is. begins_shorter ys xs h d.rest b.rest d.is b.is (grind (arith, nat_tests)) ] refl
+right_begins xs ys h b d =
+    grind (arith, nat_tests, begins_shorter ys xs h d.rest b.rest d.is b.is, begins_self ys)
 
 -- what lies between a beginning that has all calls of a caller and the whole has them too
 pub calls_between : (q : ℕ) (xs ys h m : List Entry) → Begins xs ys → Begins ys h → calls_of q h ≡ m
@@ -144,7 +144,7 @@ module _ (lawful : PlainStore → Type 0) (allowed : PlainStore → Entry → Ty
   come_behind start seen rest b h =
       let opening : List Entry = opening_of start in
       let is : h.legal.rest ≡ b.rest ++ rest = same_start opening h.legal.rest (b.rest ++ rest)
-      (sym h.legal.begins ∙ (ap (λ (l : List Entry). l ++ rest) b.is ∙ append_assoc opening b.rest rest)) in
+      (let a = h.legal.begins in let e = b.is in let c = append_assoc opening b.rest rest in cc) in
       let all : AllCome lawful allowed (store_of opening) (b.rest ++ rest) =
       subst (λ (l : List Entry). AllCome lawful allowed (store_of opening) l) is h.come in
       let at : store_of seen ≡ store_after (store_of opening) b.rest = ap store_of b.is
@@ -158,8 +158,7 @@ module _ (lawful : PlainStore → Type 0) (allowed : PlainStore → Entry → Ty
   lawful_before start seen h b d k =
       let opening : List Entry = opening_of start in
       let is : k.legal.rest ≡ b.rest ++ d.rest = same_start opening k.legal.rest (b.rest ++ d.rest)
-      (sym k.legal.begins
-      ∙ (d.is ∙ (ap (λ (l : List Entry). l ++ d.rest) b.is ∙ append_assoc opening b.rest d.rest))) in
+      (let a = k.legal.begins in let e = d.is in let f = b.is in let c = append_assoc opening b.rest d.rest in cc) in
       let come : AllCome lawful allowed (store_of opening) (b.rest ++ d.rest) =
       subst (λ (l : List Entry). AllCome lawful allowed (store_of opening) l) is k.come in
       let stand : AllStand [] (seen ++ d.rest) = subst (AllStand []) d.is k.legal.stand in

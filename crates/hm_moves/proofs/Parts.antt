@@ -1,9 +1,9 @@
 -- What a move leaves of the caller that makes it, and of the others.
-use Rattle.std.proofs.Common.{◌≡◌, ◌≢◌, ◌⊎◌, ◌||◌, ◌<◌, ◌+◌, ◌*◌, ℕ, zero, suc, true, List, [], ◌∷◌, ◌++◌, length, set, slice_index, slice_set, get_or, Option, Some, None, IfSome, Contains, refl, sym, ap, ◌∙◌, subst, arith, inl, inr, ⊎_elim, append-nil, length-set, get_or-set_same, get_or-set_other, append_assoc, false, ne_eqb, Bool, ◌||◌}
-use Rattle.hm_moves.proofs.Words.{Contains-push, Contains-append_left, ℕ_discrete, dite, Shape, Version, IsAt, version_at, word_at, Name, Entry, PlainStore, calls_of, opening_of, IsLawful, Known, Part, Act, Looks, Builds, Look, LoadStamp, LoadReference, LoadNumber, LoadLink, list_any, StoreOwn, Publish, LinkStore, Move, Heap, row_of, Places, IsOwn, places_with, IsPublished, Index, next_version, word_of}
+use Rattle.std.proofs.Common.{◌≡◌, ◌≢◌, ◌⊎◌, ◌||◌, ◌<◌, ◌+◌, ◌*◌, ℕ, zero, suc, true, List, [], ◌∷◌, ◌++◌, length, set, slice_index, slice_set, Option, Some, None, IfSome, Contains, refl, sym, ap, ◌∙◌, subst, arith, inl, ⊎_elim, append-nil, length-set, get_or-set_same, get_or-set_other, append_assoc, false, ne_eqb, Bool, ◌||◌}
+use Rattle.hm_moves.proofs.Words.{Contains-push, Contains-append_left, Shape, Version, IsAt, version_at, word_at, Name, Entry, PlainStore, calls_of, opening_of, IsLawful, Known, Part, Act, Looks, Builds, Look, LoadStamp, LoadReference, LoadNumber, LoadLink, list_any, StoreOwn, Publish, LinkStore, Move, Heap, row_of, Places, IsOwn, places_with, IsPublished, Index, next_version, word_of}
 use Rattle.hm_moves.proofs.Words.{becomes, entry_of, publishes, finds, listed, looked_at, looked_word, heap_after, index_with, row_of_part, count_of, is_naming, written_with, without, with_held, hands_after, part_after, seen_after, is_version, IsWritten, Names, HasRoom, IsWritable, MayLookInto, MayTake, IsWordOf, Begins, HeapIsGood, PartIsGood, HasCalls, AreIndexed, AreApart, published_of}
 use Rattle.hm_moves.proofs.Histories.{IsBy, calls_after, calls_beside, begins_more, begins_on, begins_self, lawful_before}
-use Rattle.hm_moves.proofs.Placed.{published_either, raised_here, raised_else, same_row, elsewhere, written_here, raised_here, raised_else, not_the_one}
+use Rattle.hm_moves.proofs.Placed.{place_small, published_either, raised_here, raised_else, same_row, elsewhere, written_here, raised_here, raised_else, not_the_one}
 use Rattle.hm_moves.proofs.Held.{listed_cases, from_some, held_cases, held_stays, without_held, none_written, written_low, unnamed_wide, unnamed_was, names_without, names_more, contains_here, contains_behind}
 use Rattle.hm_moves.proofs.Heaps.{same_word, look_published, next_small}
 use Rattle.hm_moves.proofs.Finding.{next_now, index_more, index_here, entry_by, fresh_now, found_now}
@@ -23,7 +23,8 @@ apart_with [] None h f = tt
 apart_with [] (Some n) h f = (refl, tt)
 apart_with (k ∷ ks) o h f = (
   list_any-append (is_version k) ks (listed o)
-      ∙ (ap (λ (b : Bool). b || list_any (is_version k) (listed o)) h.0 ∙ none_else o (λ n. f k n (contains_here k k ks refl))),
+      ∙ (ap (λ (b : Bool). b || list_any (is_version k) (listed o)) h.0
+      ∙ none_else o (λ n. f k n (contains_here k k ks refl))),
   apart_with ks o h.1 (λ m n there. f m n (contains_behind m k ks there)),
 )
   where
@@ -69,18 +70,17 @@ module _ {U : Type 0} (lawful : U → PlainStore → Type 0) (allowed : U → Pl
   -- a word more is stored: it is that one, or one from before
   stored_cases : (i word j w : ℕ) → IsWritten (set p.draft.written i (Some word)) j w → i < 16
       → ((j ≡ i) × (word ≡ w)) ⊎ ((j ≢ i) × IsWritten p.draft.written j w)
-  stored_cases i word j w is low = dite (ℕ_discrete j i)
-      (λ e. let wide = mine.draft.wide in
-      let same : Some word ≡ Some w = sym (get_or-set_same p.draft.written i (Some word) None (omega arith))
-      ∙ (ap (λ (n : ℕ). get_or (set p.draft.written i (Some word)) n None) (sym e) ∙ is) in inl (e, cc))
-      (λ ne. inr (ne, sym (get_or-set_other p.draft.written i j (Some word) None ne) ∙ is))
+  stored_cases i word j w is low = let wide = mine.draft.wide in
+      grind (
+        arith,
+        get_or-set_same p.draft.written i (Some word) None,
+        get_or-set_other p.draft.written i j (Some word) None,
+      )
 
   -- words that were written are there still, where nothing else is moved
   as_before : (words : List ℕ) → words ≡ h.words → p.draft.used + 0 < s.versions → (j w : ℕ)
       → IsWritten p.draft.written j w → own_word words (p.draft.used + 0) j ≡ w
-  as_before words e room j w is =
-      ap (λ (l : List ℕ). own_word l (p.draft.used + 0) j) e
-      ∙ (ap (λ (n : ℕ). own_word h.words n j) (omega arith) ∙ mine.draft.written (omega arith) j w is)
+  as_before words e room j w is = let a = mine.draft.written (omega arith) j w is in grind arith
 
   one_more : (i word : ℕ) → IsWritable p i word → p.draft.used + 0 < s.versions → (j w : ℕ)
       → IsWritten (set p.draft.written i (Some word)) j w
@@ -90,14 +90,14 @@ module _ {U : Type 0} (lawful : U → PlainStore → Type 0) (allowed : U → Pl
       let small : j < 16 = written_low (set p.draft.written i (Some word)) j w
       (length-set p.draft.written i (Some word) ∙ mine.draft.wide) is in
       let low : i < 16 = may.below in
-      ap (λ (n : ℕ). own_word words n j) (omega arith) ∙ ⊎_elim
-      (λ (t : (j ≡ i) × (word ≡ w)). ap (λ (n : ℕ). own_word words p.draft.used n) t.0
-      ∙ (written_here s h.words (next_version p) i word good.wide
-      (next_small lawful allowed h seen p good mine may.room) low ∙ t.1))
-      (λ (t : (j ≢ i) × IsWritten p.draft.written j w).
-      elsewhere s h.words (next_version p) (next_version p) j i word small low (inr t.0)
-      ∙ mine.draft.written may.room j w t.1)
-      (stored_cases i word j w is low)
+      grind (
+        arith,
+        stored_cases i word j w is low,
+        mine.draft.written may.room j w,
+        written_here s h.words (next_version p) i word good.wide
+            (next_small lawful allowed h seen p good mine may.room) low,
+        elsewhere s h.words (next_version p) (next_version p) j i word small low,
+      )
 
   -- written words are in the Table
   written_after : (act : Act) → May act → (x : ℕ) → x ≡ slice_index h.words (word_of p act)
@@ -118,10 +118,8 @@ module _ {U : Type 0} (lawful : U → PlainStore → Type 0) (allowed : U → Pl
   named_before : (act : Act) → May act → (x j w : ℕ) → is_naming j ≡ true
       → IsWritten (written_with p.draft.written act (publishes act x)) j w → Names p.hands.held w
   named_before (Looks l) may x j w n is = mine.draft.named j w n is
-  named_before (Builds (StoreOwn i word)) may x j w n is = ⊎_elim
-      (λ (t : (j ≡ i) × (word ≡ w)). subst (Names p.hands.held) t.1 (may.named (ap is_naming (sym t.0) ∙ n)))
-      (λ (t : (j ≢ i) × IsWritten p.draft.written j w). mine.draft.named j w n t.1)
-      (stored_cases i word j w is may.below)
+  named_before (Builds (StoreOwn i word)) may x j w n is =
+      grind (arith, stored_cases i word j w is may.below, may.named, mine.draft.named j w n)
   named_before (Builds (Publish k)) may x j w n is = absurd (none_written j w is)
   named_before (Builds (LinkStore at k o)) may zero j w n is = absurd (none_written j w is)
   named_before (Builds (LinkStore at k o)) may (suc m) j w n is = mine.draft.named j w n is
@@ -159,12 +157,14 @@ module _ {U : Type 0} (lawful : U → PlainStore → Type 0) (allowed : U → Pl
       → Contains (listed_with o) k
   own_more None k own = subst (λ (l : List Known). Contains l k) (sym (append-nil (published_of p.hands)))
       (mine.hands.all k own)
-  own_more (Some f) k own = ⊎_elim
-      (λ (t : f ≡ k). subst (Contains (listed_with (Some f))) t (Contains-push (published_of p.hands) f))
-      (λ (t : (k.version.0 ≢ f.version.0) × IsPublished h.index k).
-      Contains-append_left (published_of p.hands) (f ∷ []) k
-      (mine.hands.all k (record { published = t.1; region = own.region; place = own.place; at = own.at })))
-      (published_either h.index f k own.published)
+  own_more (Some f) k own = grind (
+    arith,
+    published_either h.index f k own.published,
+    Contains-push (published_of p.hands) f,
+    Contains-append_left (published_of p.hands) (f ∷ []) k,
+    λ (t : IsPublished h.index k). mine.hands.all k
+        (record { published = t; region = own.region; place = own.place; at = own.at }),
+  )
 
   -- the caller's hands afterwards have published versions
   hands_now : (m : Move) (x : ℕ) (found : Option Known)
@@ -177,21 +177,27 @@ module _ {U : Type 0} (lawful : U → PlainStore → Type 0) (allowed : U → Pl
       let same : published_of (hands_after p.hands m x found) ≡ listed_with new =
       sym (append_assoc p.hands.left p.hands.own (listed new)) in
       record {
-        held = λ k there. ⊎_elim
-            (λ (t : Contains (with_held (without p.hands.held m.let_go) found) k).
-            index_more h.index new k fresh (⊎_elim
-            (λ (r : Contains (without p.hands.held m.let_go) k).
-            mine.hands.held k (without_held p.hands.held m.let_go k r))
-            (λ (r : found ≡ Some k). from_some (IsPublished h.index) found k r is)
-            (held_cases (without p.hands.held m.let_go) found k t)))
-            (λ (t : new ≡ Some k). index_here h.index new k t)
-            (held_cases (with_held (without p.hands.held m.let_go) found) new k there);
-        own = λ k there. ⊎_elim
-            (λ (t : Contains (published_of p.hands) k).
-            still_own p.number new k fresh (mine.hands.own k t))
-            (λ (t : new ≡ Some k). fresh_own (index_with h.index new) k (from_some
-            (λ n. (n.version ≡ next_version p) × HasRoom p) new k t next) (index_here h.index new k t))
-            (listed_cases (published_of p.hands) new k (subst (λ (l : List Known). Contains l k) same there));
+        held = λ k there. grind (
+          arith,
+          held_cases (with_held (without p.hands.held m.let_go) found) new k there,
+          held_cases (without p.hands.held m.let_go) found k,
+          without_held p.hands.held m.let_go k,
+          mine.hands.held k,
+          index_more h.index new k fresh,
+          index_here h.index new k,
+          from_some (IsPublished h.index) found k,
+        );
+        own = λ k there. grind (
+          arith,
+          listed_cases (published_of p.hands) new k,
+          there,
+          same,
+          mine.hands.own k,
+          still_own p.number new k fresh,
+          index_here h.index new k,
+          fresh_own (index_with h.index new) k,
+          from_some (λ n. (n.version ≡ next_version p) × HasRoom p) new k,
+        );
         all = λ k own. subst (λ (l : List Known). Contains l k) (sym same) (own_more new k own);
         once = subst AreApart (sym same) (apart_with (published_of p.hands) new mine.hands.once
             (λ k n there e. not_the_one h.index n k (from_some (λ f. h.index f.version.0 ≡ None) new n e fresh)
@@ -279,19 +285,13 @@ module _ {U : Type 0} (lawful : U → PlainStore → Type 0) (allowed : U → Pl
 
     their_none : q.draft.used < s.versions → h.index their_next.0 ≡ None
     their_none room =
-        let a = theirs.draft.used in
-        ap (λ (i : ℕ). h.index (their_row * s.versions + i)) a
-        ∙ good.placed.unused their_row (h.places.used their_row) (row_below_of q.number theirs.number) (omega arith)
+        let small = place_small q.number s.callers s.regions q.draft.region theirs.number theirs.draft.region in
+        ap (λ (i : ℕ). h.index (their_row * s.versions + i)) theirs.draft.used
+        ∙ good.placed.unused their_row (h.places.used their_row) small (let a = theirs.draft.used in omega arith)
         (omega arith)
-      where
-        row_below_of : (n : ℕ) → n < s.callers → row_of s n q.draft.region < s.callers * s.regions
-        row_below_of n low = Rattle.hm_moves.proofs.Placed.place_small n s.callers s.regions q.draft.region low
-            theirs.draft.region
 
     not_looked : (k : Known) → MayLookInto p k → q.draft.used < s.versions → their_next.0 ≢ k.version.0
-    not_looked k look room e =
-        let both : Some k ≡ None = sym (look_published h seen p mine k look)
-        ∙ (ap h.index (sym e) ∙ their_none room) in cc
+    not_looked k look room e = let a = look_published h seen p mine k look in let b = their_none room in cc
 
     not_next : HasRoom p → q.draft.used < s.versions → their_next.0 ≢ (next_version p).0
     not_next a b e =
@@ -339,21 +339,19 @@ module _ {U : Type 0} (lawful : U → PlainStore → Type 0) (allowed : U → Pl
     not_theirs k region place is room at =
         let same : row_of s q.number region * s.versions + place ≡ (next_version p).0 =
         ap (λ (v : Version). v.0) (sym at.number ∙ is) in
-        let rows : row_of s q.number region ≡ row_of_part p = same_row (row_of s q.number region)
-        (row_of_part p)
-        s.versions place p.draft.used at.place_fits room same in
         apart (same_row q.number p.number s.regions region p.draft.region at.region_fits mine.draft.region
-        rows)
+        (same_row (row_of s q.number region) (row_of_part p) s.versions place p.draft.used at.place_fits room same))
 
     their_own : (o : Option Known) → IfSome o (λ f. (f.version ≡ next_version p) × HasRoom p) → (k : Known)
         → IsOwn s q.number (index_with h.index o) k → Contains (published_of q.hands) k
     their_own None f k own = theirs.hands.all k own
-    their_own (Some m) f k own = ⊎_elim
-        (λ (t : m ≡ k). absurd (not_theirs k own.region own.place
-        (ap (λ (z : Known). z.version) (sym t) ∙ f.0) f.1 own.at))
-        (λ (t : (k.version.0 ≢ m.version.0) × IsPublished h.index k). theirs.hands.all k
-        (record { published = t.1; region = own.region; place = own.place; at = own.at }))
-        (published_either h.index m k own.published)
+    their_own (Some m) f k own = grind (
+      arith,
+      published_either h.index m k own.published,
+      λ (is : k.version ≡ next_version p). not_theirs k own.region own.place is f.1 own.at,
+      λ (t : IsPublished h.index k). theirs.hands.all k
+          (record { published = t; region = own.region; place = own.place; at = own.at }),
+    )
 
     -- a caller that makes no move
     pub other_part : (act : Act) → May act → (x : ℕ) → (after : List Entry)

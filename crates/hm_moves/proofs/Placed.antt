@@ -84,10 +84,7 @@ pub true_more : (s : Shape) (index : Index) (words words' : List ℕ) (k : Known
     → AreTrue s words' (with_one index k)
 true_more s index words words' k none same all one m there =
     contents_same s (with_one index k) words words' m (same m.version)
-    (contents_more s index words k m none (⊎_elim
-    (λ (t : k ≡ m). subst (HasContents s index words) t one)
-    (λ (t : (m.version.0 ≢ k.version.0) × IsPublished index m). all m t.1)
-    (published_either index k m there)))
+    (contents_more s index words k m none (grind (arith, published_either index k m there, all m)))
 
 lower : (q r n i j : ℕ) → i < n → q * n + i ≡ r * n + j → Dec (r ≤ q) → r ≤ q
 lower q r n i j a e (yes d) = d
@@ -146,8 +143,10 @@ rank_small s index places done placed ranked k is =
     let a = ranked.ranks k is in
     let b = made_small s places done placed.filled ranked.made ranked.freed in omega arith
 
-still_some : (index : Index) (k : Known) (v : ℕ) → IsSome (index v) → IsSome (with_one index k v)
-still_some index k v h = grind (arith, common_steps)
+-- rows have at least the places of one
+pub versions_some : (r v : ℕ) → 0 < r → v ≤ r * v
+versions_some zero v low = absurd (omega arith)
+versions_some (suc r) v low = omega (arith, suc-mul r v)
 
 module _ (s : Shape) (index : Index) (places : Places) (row : ℕ) (k : Known)
     (placed : ArePlaced s index places.used)
@@ -163,60 +162,28 @@ module _ (s : Shape) (index : Index) (places : Places) (row : ℕ) (k : Known)
   pub fresh_small : IsVersionOf s k.version
   fresh_small = let h = place_small row (row_count s) s.versions (used row) below room in omega arith
 
-  -- by cases of a row
-  by_row : (P : ℕ → Type 0) (r : ℕ) → P row → (r ≢ row → P r) → P r
-  by_row P r here there = dite (ℕ_discrete r row) (λ e. subst P (sym e) here) there
-
-  taken_here : (i : ℕ) → i < raised used row row → IsSome (with_one index k (row * s.versions + i))
-  taken_here i low = grind (arith, common_steps, nat_tests, placed.taken row i below)
-
-  unused_here : (i : ℕ) → i < s.versions → raised used row row ≤ i
-      → with_one index k (row * s.versions + i) ≡ None
-  unused_here i little past = grind (arith, common_steps, nat_tests, placed.unused row i below little)
-
-  unused_else : (r i : ℕ) → r ≢ row → r < row_count s → i < s.versions → raised used row r ≤ i
-      → with_one index k (r * s.versions + i) ≡ None
-  unused_else r i ne low little past =
-      grind (arith, common_steps, nat_tests, placed.unused r i low little, same_row r row s.versions i (used row) little room)
-
   -- a version more lies at that place
   pub placed_more : IsSizedVersion k → ArePlaced s (with_one index k) (raised used row)
   placed_more sized = record {
-    sized = λ m there. ⊎_elim
-        (λ (t : k ≡ m). subst IsSizedVersion t sized)
-        (λ (t : (m.version.0 ≢ k.version.0) × IsPublished index m). placed.sized m t.1)
-        (published_either index k m there);
-    fits = λ m there. ⊎_elim
-        (λ (t : k ≡ m). subst (λ (x : Known). IsVersionOf s x.version) t fresh_small)
-        (λ (t : (m.version.0 ≢ k.version.0) × IsPublished index m). placed.fits m t.1)
-        (published_either index k m there);
-    taken = λ r i low. by_row
-        (λ (x : ℕ). i < raised used row x → IsSome (with_one index k (x * s.versions + i))) r
-        (taken_here i)
-        (λ ne little. still_some index k (r * s.versions + i)
-        (placed.taken r i low (let one = raised_else used row r ne in omega arith)));
-    unused = λ r i low little. by_row
-        (λ (x : ℕ). raised used row x ≤ i → with_one index k (x * s.versions + i) ≡ None) r
-        (unused_here i little)
-        (λ ne. unused_else r i ne low little);
-    filled = λ r. by_row (λ (x : ℕ). raised used row x ≤ s.versions) r
-        (let one = raised_here used row in omega arith)
-        (λ ne. let one = raised_else used row r ne in let h = placed.filled r in omega arith);
+    sized = λ m there. grind (arith, published_either index k m there, placed.sized m);
+    fits = λ m there. let small = fresh_small in grind (arith, published_either index k m there, placed.fits m);
+    taken = λ r i low little. grind (arith, common_steps, nat_tests, placed.taken r i low);
+    unused = λ r i low little past. grind (
+      arith,
+      common_steps,
+      nat_tests,
+      placed.unused r i low little,
+      same_row r row s.versions i (used row) little room,
+    );
+    filled = λ r. let h = placed.filled r in grind (arith, common_steps, nat_tests);
   }
 
   -- and is counted
   pub ranked_more : (done : ℕ) → AreRanked s index places done → k.rank < total places.made (row_count s) + 1
       → AreRanked s (with_one index k) (places_with places row (Some k)) done
   ranked_more done ranked rank = record {
-    ranks = λ m there. let more = total_more places.made row (row_count s) below in ⊎_elim
-        (λ (t : k ≡ m). let same : k.rank ≡ m.rank = ap (λ (x : Known). x.rank) t in omega arith)
-        (λ (t : (m.version.0 ≢ k.version.0) × IsPublished index m). let h = ranked.ranks m t.1 in omega arith)
-        (published_either index k m there);
-    made = λ r. by_row
-        (λ (x : ℕ). raised places.made row x ≤ s.versions * places.freed x + raised used row x) r
-        (let a = raised_here places.made row in let b = raised_here used row in
-        let h = ranked.made row in omega arith)
-        (λ ne. let a = raised_else places.made row r ne in let b = raised_else used row r ne in
-        let h = ranked.made r in omega arith);
+    ranks = λ m there. let more = total_more places.made row (row_count s) below in
+        grind (arith, published_either index k m there, ranked.ranks m);
+    made = λ r. let h = ranked.made r in grind (arith, common_steps, nat_tests);
     freed = ranked.freed;
   }

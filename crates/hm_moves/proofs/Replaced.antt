@@ -1,5 +1,5 @@
 -- Seats and callers of a machine in which one caller was replaced by what it became.
-use Rattle.std.proofs.Common.{◌≡◌, ◌≢◌, ◌⊎◌, ℕ, List, slice_set, refl, sym, ap, ◌∙◌, ⊎_elim, subst}
+use Rattle.std.proofs.Common.{arith, ◌≡◌, ◌≢◌, ◌⊎◌, ℕ, List, slice_set, refl, sym, ap, ◌∙◌, ⊎_elim}
 use Rattle.hm_moves.proofs.Words.{some, get_elem?, Entry, Part, View, view, Carries}
 use Rattle.hm_moves.proofs.Places.{at_set}
 
@@ -77,21 +77,17 @@ module _ {U : Type 0} (views : List (View U)) (id place : ℕ) (v : View U) (p n
       → ((k : ℕ) (q : Part U) → k ≢ place → get_elem? v.parts k ≡ some q → P seen q)
       → ((j k : ℕ) (u : View U) (q : Part U) → j ≢ id → Carries views j k u q → P u.seen q)
       → (j k : ℕ) (u : View U) (q : Part U) → Carries views_now j k u q → P u.seen q
-  by_part P own along beside j k u q s = ⊎_elim
-      (λ (t : (j ≡ id) × (seat_now ≡ u)).
-      subst (λ (z : View U). P z.seen q) t.1 (⊎_elim
-      (λ (y : (k ≡ place) × (new ≡ q)). subst (P seen) y.1 own)
-      (λ (y : (k ≢ place) × (get_elem? v.parts k ≡ some q)). along k q y.0 y.1)
-      (either_part k u q t.1 s.place)))
-      (λ (t : (j ≢ id) × (get_elem? views j ≡ some u)).
-      beside j k u q t.0 record { seat = t.1; place = s.place })
-      (either_seat j u s.seat)
+  by_part P own along beside j k u q s =
+      grind (
+        arith,
+        either_seat j u s.seat,
+        either_part k u q,
+        along k q,
+        λ (ne : j ≢ id) (t : get_elem? views j ≡ some u). beside j k u q ne record { seat = t; place = s.place },
+      )
 
   -- and so of what seats have seen
   pub by_seat : (P : List Entry → Type 0) → P seen
       → ((j : ℕ) (u : View U) → get_elem? views j ≡ some u → P u.seen)
       → (j : ℕ) (u : View U) → get_elem? views_now j ≡ some u → P u.seen
-  by_seat P own others j u there = ⊎_elim
-      (λ (t : (j ≡ id) × (seat_now ≡ u)). subst (λ (z : View U). P z.seen) t.1 own)
-      (λ (t : (j ≢ id) × (get_elem? views j ≡ some u)). others j u t.1)
-      (either_seat j u there)
+  by_seat P own others j u there = grind (arith, either_seat j u there, others j u)

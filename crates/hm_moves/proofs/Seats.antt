@@ -66,16 +66,14 @@ module _ {U : Type 0} (lawful : U → PlainStore → Type 0) (allowed : U → Pl
 
     split_seen : (j : ℕ) (u : View U) → get_elem? (split c id v left right).views j ≡ some u → Begins u.seen
         c.heap.history
-    split_seen j u there = ⊎_elim
-        (λ (t : (j ≡ length (set c.views id (view v.seen left))) × (view v.seen right ≡ u)). subst
-        (λ (z : View U). Begins z.seen c.heap.history) t.1 (good.seen id v at))
-        (λ (t : (j < length (set c.views id (view v.seen left))) ×
-        (get_elem? (set c.views id (view v.seen left)) j ≡ some u)). ⊎_elim
-        (λ (r : (j ≡ id) × (view v.seen left ≡ u)). subst (λ (z : View U). Begins z.seen c.heap.history) r.1
-        (good.seen id v at))
-        (λ (r : (j ≢ id) × (get_elem? c.views j ≡ some u)). good.seen j u r.1)
-        (at_set c.views id j (view v.seen left) u t.1))
-        (at_end (set c.views id (view v.seen left)) (view v.seen right) u j there)
+    split_seen j u there =
+        grind (
+          arith,
+          at_end (set c.views id (view v.seen left)) (view v.seen right) u j there,
+          at_set c.views id j (view v.seen left) u,
+          good.seen id v at,
+          good.seen j u,
+        )
 
     pub good_split : Good lawful allowed g (split c id v left right)
     good_split = record {
@@ -100,13 +98,12 @@ module _ {U : Type 0} (lawful : U → PlainStore → Type 0) (allowed : U → Pl
     after_join : (j : ℕ) (u : View U) → get_elem? (joined c id v other w).views j ≡ some u
         → ((j ≡ other) × (spent_view ≡ u)) ⊎ (((j ≡ id) × (joined_view v w ≡ u)) ⊎
         ((j ≢ id) × (j ≢ other) × (get_elem? c.views j ≡ some u)))
-    after_join j u h = ⊎_elim
-        (λ (t : (j ≡ other) × (spent_view ≡ u)). inl t)
-        (λ (t : (j ≢ other) × (get_elem? (set c.views id (joined_view v w)) j ≡ some u)). inr (⊎_elim
-        (λ (r : (j ≡ id) × (joined_view v w ≡ u)). inl r)
-        (λ (r : (j ≢ id) × (get_elem? c.views j ≡ some u)). inr (r.0, t.0, r.1))
-        (at_set c.views id j (joined_view v w) u t.1)))
-        (at_set (set c.views id (joined_view v w)) other j spent_view u h)
+    after_join j u h =
+        grind (
+          arith,
+          at_set (set c.views id (joined_view v w)) other j spent_view u h,
+          at_set c.views id j (joined_view v w) u,
+        )
 
     -- where a caller stood before: the same place, or in the seat that was taken in
     record Merged (j k : ℕ) (u : View U) (q : Part U) : Type 0 where
@@ -186,15 +183,8 @@ module _ {U : Type 0} (lawful : U → PlainStore → Type 0) (allowed : U → Pl
     pub good_join : Good lawful allowed g (joined c id v other w)
     good_join = record {
       heap = good.heap;
-      seen = λ j u h. ⊎_elim
-          (λ (t : (j ≡ other) × (spent_view ≡ u)). subst (λ (z : View U). Begins z.seen c.heap.history) t.1
-          (record { rest = c.heap.history; is = refl }))
-          (λ (t : ((j ≡ id) × (joined_view v w ≡ u)) ⊎
-          ((j ≢ id) × (j ≢ other) × (get_elem? c.views j ≡ some u))). ⊎_elim
-          (λ (r : (j ≡ id) × (joined_view v w ≡ u)). subst (λ (z : View U). Begins z.seen c.heap.history) r.1
-          longer_seen)
-          (λ (r : (j ≢ id) × (j ≢ other) × (get_elem? c.views j ≡ some u)). good.seen j u r.2) t)
-          (after_join j u h);
+      seen = λ j u h. let none : Begins [] c.heap.history = record { rest = c.heap.history; is = refl } in
+          grind (arith, after_join j u h, longer_seen, good.seen j u);
       parts = λ j k u q s. let m = merged j k u q s in part_further m.old.seen u.seen q m.further m.begins
           (good.parts m.seat m.place m.old q m.stood);
       apart = λ j k m n u u' q q' s s' same.
@@ -228,10 +218,7 @@ module _ {U : Type 0} (lawful : U → PlainStore → Type 0) (allowed : U → Pl
       let a = all q small in
       let k = good.parts id a.0 v a.1 record { seat = at; place = a.2 } in
       let mine : List Entry = a.1.calls.mine in
-      let made : calls_of q c.heap.history ≡ mine = subst (λ (i : ℕ). calls_of i c.heap.history ≡ mine) a.3
-      k.calls.all in
-      let seen : calls_of q v.seen ≡ mine = subst (λ (i : ℕ). calls_of i v.seen ≡ mine) a.3 k.calls.seen in
-      nothing_more mine (calls_of q b.rest) (ap (λ (l : List Entry). l ++ calls_of q b.rest) (sym seen) ∙
-      (sym (calls_of-append q v.seen b.rest) ∙ (ap (calls_of q) (sym b.is) ∙ made))) in
+      let made = k.calls.all in let seen = k.calls.seen in let number = a.3 in let is = b.is in
+      let both = calls_of-append q v.seen b.rest in nothing_more mine (calls_of q b.rest) (cc) in
       b.is ∙ (ap (λ (l : List Entry). v.seen ++ l) (none_made g.shape.callers b.rest below none) ∙ append-nil
       v.seen)

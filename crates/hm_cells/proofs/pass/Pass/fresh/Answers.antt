@@ -1,42 +1,28 @@
 use Rattle.std.proofs.Common.{◌≡◌, ◌-◌, ℕ, [], Some, set, refl, sym, ap, ◌∙◌, arith}
 use Rattle.hm_cells.proofs.Words.{Version, side_count, Gripped, site_of, first_roots}
 use Rattle.hm_cells.proofs.Opening.{sure_first}
-use Rattle.hm_cells.proofs.Fresh.{fresh_is, seated_fresh}
+use Rattle.hm_cells.proofs.Fresh.{first_grip, fresh_is, seated_fresh}
 use Rattle.hm_cells.proofs.pass.Pass.fresh.Goals as goal
 
 pub invariant_of-result : goal.invariant_of-result
 invariant_of-result g c =
     let site = site_of c.args.opening.now in
     let w = c.requires.words in
-    let make : ℕ → Version = λ n. record { 0 = n } in
-    let number : c.objects-common.result - 1 ≡ side_count c.args.opening.now.start.sides =
-    omega (arith, c.objects-common.ensures.count) in
-    let grip = ap (λ (x : Gripped g.row.U.Denot). x.roots) c.in_ok-grip.ensures in
-    let roots : c.set.new.self.roots ≡ first_roots c.args.opening.now.start =
-    ap (λ (x : Gripped g.row.U.Denot). x.roots) c.set.ensures
-    ∙ (λ i. set (grip i) 0 (Some (make (number i)))) in
-    let hand : c.set.new.self.hand ≡ [] =
-    ap (λ (x : Gripped g.row.U.Denot). x.hand) c.set.ensures
-    ∙ ap (λ (x : Gripped g.row.U.Denot). x.hand) c.in_ok-grip.ensures in
+    let both = first_grip c.args.opening.now.start site c.in_ok-grip.grip c.set.new.self
+    (c.objects-common.result - 1) c.in_ok-grip.ensures c.set.ensures
+    (omega (arith, c.objects-common.ensures.count)) in
     seated_fresh g.U.Usage.lawful g.U.Usage.allowed site c.args.seat.table_id c.args.number w.1.sized
     (sure_first g.U.Usage.lawful g.U.Usage.allowed site w.0 w.1 w.1.sized c.requires.objects c.requires.lawful
-    c.args.number c.requires.number) c.args.seat c.set.new.self c.requires.seat refl roots hand
+    c.args.number c.requires.number) c.args.seat c.set.new.self c.requires.seat refl both.0 both.1
     c.at.result.0 c.args.used (ap (λ (v : Version). v.0) (sym c.at.ensures.there.number)) c.requires.used
 
 pub returns : goal.returns
 returns g c =
     let site = site_of c.args.opening.now in
     let w = c.requires.words in
-    let make : ℕ → Version = λ n. record { 0 = n } in
-    let number : c.objects-common.result - 1 ≡ side_count c.args.opening.now.start.sides =
-    omega (arith, c.objects-common.ensures.count) in
-    let grip = ap (λ (x : Gripped g.row.U.Denot). x.roots) c.in_ok-grip.ensures in
-    let roots : c.set.new.self.roots ≡ first_roots c.args.opening.now.start =
-    ap (λ (x : Gripped g.row.U.Denot). x.roots) c.set.ensures
-    ∙ (λ i. set (grip i) 0 (Some (make (number i)))) in
-    let hand : c.set.new.self.hand ≡ [] =
-    ap (λ (x : Gripped g.row.U.Denot). x.hand) c.set.ensures
-    ∙ ap (λ (x : Gripped g.row.U.Denot). x.hand) c.in_ok-grip.ensures in
+    let both = first_grip c.args.opening.now.start site c.in_ok-grip.grip c.set.new.self
+    (c.objects-common.result - 1) c.in_ok-grip.ensures c.set.ensures
+    (omega (arith, c.objects-common.ensures.count)) in
     fresh_is g.U.Usage.lawful g.U.Usage.allowed site c.args.seat.table_id c.args.number w.1.sized
     (sure_first g.U.Usage.lawful g.U.Usage.allowed site w.0 w.1 w.1.sized c.requires.objects c.requires.lawful
-    c.args.number c.requires.number) c.args.seat c.set.new.self c.requires.seat refl roots hand
+    c.args.number c.requires.number) c.args.seat c.set.new.self c.requires.seat refl both.0 both.1

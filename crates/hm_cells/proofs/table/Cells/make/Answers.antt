@@ -6,12 +6,8 @@ use Rattle.hm_cells.proofs.table.Cells.make.Goals as goal
 pub returns-clause-fits : goal.returns-clause-fits
 returns-clause-fits g c =
     let cells = c.in_ok-cells.cells in
-    let site : Site g.row.U.Denot = record {
-      usage = c.args.usage;
-      shape = c.args.shape;
-      start =
-          c.args.start;
-    } in
+    let a = c.args in
+    let site : Site g.row.U.Denot = record { usage = a.usage; shape = a.shape; start = a.start } in
     let made : Made g.row.U.Denot = record { table = cells.table; site = site } in
     let is : made ≡ cells =
     λ i. record { table = cells.table; site = sym (c.in_ok-cells.ensures).site i } in
@@ -22,22 +18,14 @@ returns-clause-fits g c =
 
 pub returns-clause-fresh : goal.returns-clause-fresh
 returns-clause-fresh g c =
-    let site : Site g.row.U.Denot = record {
-      usage = c.args.usage;
-      shape = c.args.shape;
-      start =
-          c.args.start;
-    } in
+    let a = c.args in
+    let site : Site g.row.U.Denot = record { usage = a.usage; shape = a.shape; start = a.start } in
     subst (λ (l : List (Facts g.row.U.Denot)). All (λ s. IsFresh (sight_of s)) l) (sym c.in_ok-passes.ensures)
     (all_fresh site c.in_ok-cells.cells.table c.args.shape.callers)
 
 pub returns-clause-rest : goal.returns-clause-rest
 returns-clause-rest g c =
-    let site : Site g.row.U.Denot = record {
-      usage = c.args.usage;
-      shape = c.args.shape;
-      start =
-          c.args.start;
-    } in
+    let a = c.args in
+    let site : Site g.row.U.Denot = record { usage = a.usage; shape = a.shape; start = a.start } in
     subst (λ (l : List (Facts g.row.U.Denot)). All IsAtRest l) (sym c.in_ok-passes.ensures)
     (all_rest site c.in_ok-cells.cells.table c.args.shape.callers)

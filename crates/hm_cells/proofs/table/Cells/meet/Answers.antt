@@ -1,5 +1,5 @@
 use Rattle.std.proofs.Common.{◌<◌, arith, sym, ap, ◌∙◌}
-use Rattle.hm_cells.proofs.Words.{Made}
+use Rattle.hm_cells.proofs.Words.{site_of, Made}
 use Rattle.hm_cells.proofs.Refines.{unites}
 use Rattle.hm_cells.proofs.table.Cells.meet.Goals as goal
 
@@ -11,7 +11,6 @@ join_seat-requires g c =
       c.requires.other ∙ same,
       c.requires.none,
       some,
-      unites g.U.Usage.lawful g.U.Usage.allowed g.U.Usage.laws (Rattle.hm_cells.specs.Grips.site_of
-          c.self.inside.table.shared.key) c.args.seat.now.id c.args.seat.now.me.0 c.args.other.id
+      unites g.U.Usage.lawful g.U.Usage.allowed g.U.Usage.laws (site_of c.self.inside.table.shared.key) c.args.seat.now.id c.args.seat.now.me.0 c.args.other.id
           c.args.other.me.0,
     )
