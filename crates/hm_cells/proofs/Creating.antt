@@ -9,13 +9,6 @@ module _ {U : Type 0} (lawful : U → PlainStore → Type 0) (allowed : U → Pl
   abbrev pub AreNought : Facts U → ℕ → Type 0
   AreNought s n = (j : ℕ) → 1 ≤ j → j < n → IsWritten s.part.draft.written j 0
 
-  -- fifteen of them make a draft whole
-  pub nought_whole : (s : Facts U) → AreNought s 16 → IsWhole s.part
-  nought_whole s h = record {
-    written = λ j some low. ap is_some (h j some low);
-    stamp = ap (λ (o : Option ℕ). unwrap_or o 0) (h 1 (omega arith) (omega arith));
-  }
-
   -- a pass that took a step fits the cells still
   pub fits_still : (s t : Facts U) (act : Act) (x : ℕ) (m : Made U) → Takes lawful allowed s act x t
       → Fits s m → Fits t m

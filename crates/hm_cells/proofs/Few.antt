@@ -46,15 +46,25 @@ root_number : (k : Known) (rs : List (Option Version))
     → Contains (numbers_at rs) k.version.0
 root_number k [] h = cc
 root_number k (None ∷ rs) h = root_number k rs h
-root_number k (Some v ∷ rs) h = grind (arith, common_steps, contains_behind k.version.0 v.0 (numbers_at rs),
-    contains_here k.version.0 v.0 (numbers_at rs), root_number k rs)
+root_number k (Some v ∷ rs) h = grind (
+  arith,
+  common_steps,
+  contains_behind k.version.0 v.0 (numbers_at rs),
+  contains_here k.version.0 v.0 (numbers_at rs),
+  root_number k rs,
+)
 
 hand_number : (k : Known) (hand : List Version) → list_any (λ v. k.version.0 == v.0) hand ≡ true
     → Contains (map (λ v. v.0) hand) k.version.0
 hand_number k [] h = cc
 hand_number k (v ∷ vs) h =
-    grind (arith, common_steps, contains_behind k.version.0 v.0 (map (λ (w : Version). w.0) vs),
-    contains_here k.version.0 v.0 (map (λ (w : Version). w.0) vs), hand_number k vs)
+    grind (
+      arith,
+      common_steps,
+      contains_behind k.version.0 v.0 (map (λ (w : Version). w.0) vs),
+      contains_here k.version.0 v.0 (map (λ (w : Version). w.0) vs),
+      hand_number k vs,
+    )
 
 -- where none is let go, no more are held than there are names
 all_kept : (roots : List (Option Version)) (hand : List Version) (held : List Known) → AreApart held

@@ -10,6 +10,7 @@ load-requires g c =
     let some : 0 < z.words = omega (arith, c.self.invariant.words) in (
       c.requires.own ∙ sym (ap (λ (m : Made g.row.U.Denot). m.table) c.self.view_is),
       some,
-      look_as g.U.Usage.lawful g.U.Usage.allowed g.U.Usage.laws (site_of c.self.inside.table.shared.key) z.slots p.id g.J.Moving.place p.me.0 p.me.1 g.J.Moving.picked.let_go
+      look_as g.U.Usage.lawful g.U.Usage.allowed g.U.Usage.laws (site_of c.self.inside.table.shared.key)
+          z.slots p.id g.J.Moving.place p.me.0 p.me.1 g.J.Moving.picked.let_go
           c.requires.carries.0 0 c.requires.carries.1,
     )

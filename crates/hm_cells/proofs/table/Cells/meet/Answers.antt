@@ -11,6 +11,7 @@ join_seat-requires g c =
       c.requires.other ∙ same,
       c.requires.none,
       some,
-      unites g.U.Usage.lawful g.U.Usage.allowed g.U.Usage.laws (site_of c.self.inside.table.shared.key) c.args.seat.now.id c.args.seat.now.me.0 c.args.other.id
+      unites g.U.Usage.lawful g.U.Usage.allowed g.U.Usage.laws (site_of c.self.inside.table.shared.key)
+          c.args.seat.now.id c.args.seat.now.me.0 c.args.other.id
           c.args.other.me.0,
     )
