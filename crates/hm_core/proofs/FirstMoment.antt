@@ -1,7 +1,7 @@
 -- The moment that a fresh machine tells: it is fresh, and sound.
 use Rattle.std.proofs.Common.{◌≡◌, ◌≢◌, ◌<◌, ◌≤◌, ◌-◌, ◌*◌, ℕ, zero, suc, ne_eqb, List, [], ◌∷◌, ◌++◌, length, map, get_or, take, replicate, Option, Some, None, refl, sym, ap, ◌∙◌, subst, arith, ⊎_elim, suc-mul}
 use Rattle.std.specs.Prelude.{slice_get}
-use Rattle.hm_core.proofs.Words.{fun_ext, length-append, length-map, length-replicate, length-set, map-append, get_or-set_same, get_or-set_other, take_all, ℕ_discrete, dite, some, get_elem?, Shape, version_count, Start, Entry, AnyUsage, opening_of, Known, Part, View, Index, IsPublished, link_of, Carries, common_known, all_known, many, Row, SeatState, no_seat, HandState, fresh_hand, no_hand, Moment, any_store, any_entry, core_of, hand_at, index_of, no_row, own_part, places_of, row_at, seat_view, site_of, IsSound, IsSoundHand, creates_of, first_seats}
+use Rattle.hm_core.proofs.Words.{versions_some, fun_ext, length-append, length-map, length-replicate, length-set, map-append, get_or-set_same, get_or-set_other, take_all, ℕ_discrete, dite, some, get_elem?, Shape, version_count, Start, Entry, AnyUsage, opening_of, Known, Part, View, Index, IsPublished, link_of, Carries, common_known, all_known, many, Row, SeatState, no_seat, HandState, fresh_hand, no_hand, Moment, any_store, any_entry, core_of, hand_at, index_of, no_row, own_part, places_of, row_at, seat_view, site_of, IsSound, IsSoundHand, creates_of, first_seats}
 use Rattle.std.proofs.lemmas.Nat.{mul-lt}
 use Rattle.std.proofs.lemmas.List.{get_or-replicate}
 use Rattle.hm_model.specs.History.{starting_count}
@@ -13,6 +13,7 @@ use Rattle.hm_moves.proofs.Fresh.{numbered, numbered_at, used_first, used_other,
 use Rattle.hm_moves.proofs.Places.{at_end, at_below}
 use Rattle.hm_core.specs.Firsts.{first_hands, first_rows}
 use Rattle.hm_core.proofs.FirstVersions.{opening_created}
+use Rattle.hm_moves.proofs.Placed.{versions_some}
 
 -- what the fields of a fresh machine tell
 abbrev pub first_moment : Shape → Start → List ℕ → Moment
@@ -41,17 +42,9 @@ seat_of f seen zero j v e = absurd (let low = at_below (map f (first_seats seen 
 seat_of f seen (suc n) j v e =
     let last : SeatState = record { seen = seen; parts = n ∷ [] } in
     let cut = map-append f (first_seats seen n) (last ∷ []) in
-    let long : length (map f (first_seats seen n)) ≡ n = length-map (first_seats seen n) f
-    ∙ seats_long seen n in
-    let before = seat_of f seen n j v in
-    ⊎_elim
-    (λ (own : (j ≡ length (map f (first_seats seen n))) × (f last ≡ v)).
-    let at : j ≡ n = own.0 ∙ long in
-    (omega arith, ap (λ (k : ℕ). f (record { seen = seen; parts = k ∷ [] })) at ∙ own.1))
-    (λ (other : (j < length (map f (first_seats seen n)))
-    × (get_elem? (map f (first_seats seen n)) j ≡ some v)).
-    let r = before other.1 in let low = r.0 in (omega arith, r.1))
-    (at_end (map f (first_seats seen n)) (f last) v j (ap (λ l. get_elem? l j) (sym cut) ∙ e))
+    let long = length-map (first_seats seen n) f in
+    let count = seats_long seen n in
+    grind (arith, seat_of f seen n j v, at_end (map f (first_seats seen n)) (f last) v j (ap (λ l. get_elem? l j) (sym cut) ∙ e))
 
 -- no seat has seen more
 bound_push : (xs : List SeatState) (x d : SeatState) (top : ℕ) → ((j : ℕ) → (get_or xs j d).seen ≤ top)
@@ -65,22 +58,21 @@ seats_bound : (seen n : ℕ) (d : SeatState) → d.seen ≤ seen → (j : ℕ)
     → (get_or (first_seats seen n) j d).seen ≤ seen
 seats_bound seen zero d low j = low
 seats_bound seen (suc n) d low j =
-    bound_push (first_seats seen n) (record { seen = seen; parts = n ∷ [] }) d seen
-    (seats_bound seen n d low) (omega arith) low j
+    bound_push (first_seats seen n) _ d seen (seats_bound seen n d low) (omega arith) low j
 
 one_at : {A : Type 0} (x y : A) (k : ℕ) → get_elem? (x ∷ []) k ≡ some y → (k ≡ 0) × (x ≡ y)
 one_at x y zero e = (refl, cc)
 one_at x y (suc k) e = absurd (let low = at_below (x ∷ []) (suc k) y e in omega arith)
 
--- what is repeated is found, or else what stands for nothing
-repeated : {A : Type 0} (n v : ℕ) (a : A) → get_or (replicate n a) v a ≡ a
-repeated zero v a = refl
-repeated (suc n) zero a = refl
-repeated {A} (suc n) (suc v) a = repeated {A = A} n v a
+-- what is told of what is repeated is told, if it is told of what stands for nothing
+repeated : {A B : Type 0} (f : A → B) (n v : ℕ) (a d : A) → f a ≡ f d → f (get_or (replicate n a) v d) ≡ f d
+repeated f zero v a d e = refl
+repeated f (suc n) zero a d e = e
+repeated f (suc n) (suc v) a d e = repeated f n v a d e
 
 -- the index is told by the list of versions
 index_get : (xs : List Known) (n v : ℕ) → get_or (map Some xs ++ replicate n None) v None ≡ slice_get xs v
-index_get [] n v = repeated {A = Option Known} n v None
+index_get [] n v = repeated (λ (o : Option Known). o) n v None None refl
 index_get (x ∷ xs) n zero = refl
 index_get (x ∷ xs) n (suc v) = index_get xs n v
 
@@ -88,16 +80,7 @@ index_get (x ∷ xs) n (suc v) = index_get xs n v
 first_to : (s : Shape) (common : Known) (own : List Known) (q : ℕ)
     → (get_or (first_hands s common own) q no_hand).draft.region ≡ 0
 first_to s common own zero = refl
-first_to s common own (suc q) = go (s.callers - 1) q
-  where
-    go : (n v : ℕ) → (get_or (replicate n (fresh_hand s.versions common [])) v no_hand).draft.region ≡ 0
-    go zero v = refl
-    go (suc n) zero = refl
-    go (suc n) (suc v) = go n v
-
-versions_some : (r v : ℕ) → 0 < r → v ≤ r * v
-versions_some zero v low = absurd (omega arith)
-versions_some (suc r) v low = omega (arith, suc-mul r v)
+first_to s common own (suc q) = repeated (λ (h : HandState). h.draft.region) (s.callers - 1) q _ no_hand refl
 
 module _ (s : Shape) (start : Start) (words : List ℕ) (first : AreFirst s start words)
     (room : starting_count start ≤ s.versions) where
@@ -118,28 +101,26 @@ module _ (s : Shape) (start : Start) (words : List ℕ) (first : AreFirst s star
   abbrev full : Row
   full = record { used = length (all_known start); made = length (all_known start); freed = 0 }
 
-  row_first : (row : ℕ) → row ≡ 0 → row_at m.rows row ≡ full
-  row_first row e =
-      let some = some_rows in
-      let long : length (replicate {A = Row} (row_count s) no_row) ≡ row_count s =
-      length-replicate (row_count s) no_row in
-      ap (row_at m.rows) e ∙ get_or-set_same (replicate (row_count s) no_row) 0 full no_row (omega arith)
+  row_first : row_at m.rows 0 ≡ full
+  row_first =
+      let some = some_rows in let long = length-replicate {A = Row} (row_count s) no_row in
+      get_or-set_same (replicate (row_count s) no_row) 0 full no_row (omega arith)
 
   row_other : (row : ℕ) → row ≢ 0 → row_at m.rows row ≡ no_row
   row_other row ne = get_or-set_other (replicate (row_count s) no_row) 0 row full no_row ne
-      ∙ repeated (row_count s) row no_row
+      ∙ repeated (λ (r : Row). r) (row_count s) row no_row no_row refl
 
   -- a count that a row has as many as there are starting objects, and another none
   counted : (f : Row → ℕ) → f full ≡ length (all_known start) → f no_row ≡ 0 → (row : ℕ)
       → f (row_at m.rows row) ≡ fresh_used start row
   counted f one none row = dite (ℕ_discrete row 0)
-      (λ e. ap f (row_first row e) ∙ (one ∙ (many start first.sized ∙ sym (used_first start first.sized row e))))
+      (λ (e : row ≡ 0). ap (λ (r : ℕ). f (row_at m.rows r)) e ∙ (ap f row_first
+      ∙ (one ∙ (many start first.sized ∙ sym (used_first start first.sized row e)))))
       (λ ne. ap f (row_other row ne) ∙ (none ∙ sym (used_other start first.sized row ne)))
 
   never_freed : (row : ℕ) → (row_at m.rows row).freed ≡ 0
   never_freed row = dite (ℕ_discrete row 0)
-      (λ e. ap (λ (r : Row). r.freed) (row_first row e))
-      (λ ne. ap (λ (r : Row). r.freed) (row_other row ne))
+      (λ e. rw e (ap (λ (r : Row). r.freed) row_first)) (λ ne. ap (λ (r : Row). r.freed) (row_other row ne))
 
   places_are : places_of m ≡ fresh_places start
   places_are = λ i. record {
@@ -171,19 +152,11 @@ module _ (s : Shape) (start : Start) (words : List ℕ) (first : AreFirst s star
     draft = record (own_part m 0).draft { used = many start first.sized i };
   }
   part_is (suc q) low =
-      let bare : Part AnyUsage = record (own_part m (suc q)) {
+      let is : own_part m (suc q) ≡ record (own_part m (suc q)) {
         draft = (fresh_hand s.versions (common_known start) []).draft;
         hands = (fresh_hand s.versions (common_known start) []).hands;
-      } in
-      let is : own_part m (suc q) ≡ bare = λ i. record (own_part m (suc q)) {
-        draft = (hand_own q low i).draft;
-        hands = (hand_own q low i).hands;
-      } in
-      let other : bare ≡ fresh_part (site_of m) (suc q) = rw (ne_eqb (suc q) 0 (λ z. omega arith)) refl in
-      is ∙ other
-
-  seen_is : take (length (opening_of start)) (opening_of start) ≡ opening_of start
-  seen_is = take_all (length (opening_of start)) (opening_of start) (omega arith)
+      } = λ i. record (own_part m (suc q)) { draft = (hand_own q low i).draft; hands = (hand_own q low i).hands } in
+      is ∙ rw (ne_eqb (suc q) 0 (λ z. omega arith)) refl
 
   -- a view is of one caller, with its fresh part
   record IsOwn (j k : ℕ) (v : View AnyUsage) (p : Part AnyUsage) : Type 0 where
@@ -201,18 +174,17 @@ module _ (s : Shape) (start : Start) (words : List ℕ) (first : AreFirst s star
   first_fresh = record {
     heap = fresh_heap;
     seen = λ j v at. let a = seat_of (seat_view m) (length (opening_of start)) s.callers j v at in
-        ap (λ (w : View AnyUsage). w.seen) (sym a.1) ∙ seen_is;
+        ap (λ (w : View AnyUsage). w.seen) (sym a.1)
+        ∙ take_all (length (opening_of start)) (opening_of start) (omega arith);
     parts = λ j k v p at.
         let o = own j k v p at in
-        let low = o.low in
         let number : j ≡ p.number = ap (λ (q : Part AnyUsage). q.number) o.is in
-        (omega arith, sym o.is ∙ (part_is j o.low ∙ ap (fresh_part (site_of m)) number));
+        (grind arith, sym o.is ∙ (part_is j o.low ∙ ap (fresh_part (site_of m)) number));
     apart = λ j k i n v w p q a b same.
         let x = own j k v p a in
         let y = own i n w q b in
         let one : j ≡ p.number = ap (λ (z : Part AnyUsage). z.number) x.is in
-        let two : i ≡ q.number = ap (λ (z : Part AnyUsage). z.number) y.is in
-        let at = x.place in let there = y.place in (omega arith, omega arith);
+        let two : i ≡ q.number = ap (λ (z : Part AnyUsage). z.number) y.is in (grind arith, grind arith);
   }
 
   hands_sound : (q : ℕ) → q < s.callers → IsSoundHand m (hand_at m q)
@@ -233,13 +205,10 @@ module _ (s : Shape) (start : Start) (words : List ℕ) (first : AreFirst s star
         ∙ length-replicate (row_count s) no_row;
     hands_size =
         let some = s.callers_fit in
-        let long : length (replicate {A = HandState} (s.callers - 1)
-        (fresh_hand s.versions (common_known start) [])) ≡ s.callers - 1 =
-        length-replicate (s.callers - 1) (fresh_hand s.versions (common_known start) []) in omega arith;
+        let long = length-replicate (s.callers - 1) (fresh_hand s.versions (common_known start) []) in omega arith;
     seats_size = let long = seats_long (length (opening_of start)) s.callers in omega arith;
     numbered = λ v k is.
-        let here : slice_get (all_known start) v ≡ Some k =
-        sym (ap (λ (f : Index). f v) index_is) ∙ is in
+        let here = sym (ap (λ (f : Index). f v) index_is) ∙ is in
         ap (λ (z : Known). z.version.0) (numbered_at 0 (all_known start) v k (numbered start first.sized) here).is
         ∙ omega arith;
     hands = hands_sound;
@@ -265,14 +234,4 @@ pub moment_is : (s : Shape) (start : Start) (firsts : List Known) (common : Know
       seats = seats;
     } ≡ first_moment s start words
 moment_is s start firsts common words rows known history hands seats count seen a k h n r last l t e =
-    let told : history ≡ opening_of start = h ∙ (ap creates_of a ∙ opening_created start) in
-    λ i. record {
-      shape = s;
-      start = start;
-      words = words;
-      known = (k ∙ ap (λ (ks : List Known). map Some ks ++ replicate (version_count s - length ks) None) a) i;
-      rows = (r ∙ ap (first_rows s) (n ∙ ap length a)) i;
-      history = told i;
-      hands = (l ∙ (λ j. first_hands s (last j) (a j))) i;
-      seats = (t ∙ ap (λ (j : ℕ). first_seats j s.callers) (e ∙ ap length told)) i;
-    }
+    rw (k, r, n, l, t, e, h, last, a, opening_created start) refl

@@ -21,17 +21,11 @@ pub one_added : (before : List Known) (side : Option Numbers) (name : Option Nam
     → AreAdded more sides names after → AreAdded before (side ∷ sides) (name ∷ names) after
 one_added before side name more sides names after one rest =
     let here : List Known = side_known (length before) (side ∷ []) in
-    let count : length more ≡ length before + length here = ap length one.versions
-    ∙ length-append before here in
+    let count : length more ≡ length before + length here = ap length one.versions ∙ length-append before here in
     record {
-      versions = rest.versions
-          ∙ ((λ i. one.versions i ++ side_known (count i) sides)
-          ∙ (append_assoc before here (side_known (length before + length here) sides)
-          ∙ ap (λ (l : List Known). before ++ l) (sym (first_known (length before) side sides))));
-      names_are = (λ i. name ∷ rest.names_are i)
-          ∙ (ap (λ (j : ℕ). name ∷ side_names j sides) count
-          ∙ ((λ i. one.name_is i ++ side_names (length before + length here) sides)
-          ∙ sym (first_name (length before) side sides)));
+      versions = rest.versions ∙ rw (count, one.versions, first_known (length before) side sides)
+          (append_assoc before here (side_known (length before + length here) sides));
+      names_are = rw (rest.names_are, count, first_name (length before) side sides, sym one.name_is) refl;
     }
 
 -- the common object's version comes behind all of them
@@ -40,19 +34,15 @@ pub all_added : (start : Start) (refs : Refs) (after more : List Known) (common 
     → common ≡ starting_known n (new_contents refs start.numbers) → more ≡ after ++ common ∷ []
     → more ≡ all_known start
 all_added start refs after more common n added count is last =
-    let number : n ≡ side_count start.sides = count ∙ (ap length added.versions ∙ sides_length 0 start.sides) in
-    last ∙ (λ i. added.versions i ++ (is
-    ∙ (λ j. starting_known (number j) (new_contents (added.names_are j) start.numbers))) i ∷ [])
+    let number = ap length added.versions ∙ sides_length 0 start.sides in
+    rw (last, is, count, number, added.versions, added.names_are) refl
 
 pub common_last : (start : Start) (l : List Known) (d : Known) → l ≡ all_known start
     → get_or l (length l - 1) d ≡ common_known start
 common_last start l d is =
-    let sides : List Known = side_known 0 start.sides in
-    let one : List Known = common_known start ∷ [] in
-    let long = length-append sides one in
-    let at : length (sides ++ one) - 1 ≡ length sides + 0 = omega arith in
-    (λ i. get_or (is i) (length (is i) - 1) d)
-    ∙ (ap (λ (n : ℕ). get_or (sides ++ one) n d) at ∙ get_or-append-add sides one 0 d)
+    let long = length-append (side_known 0 start.sides) (common_known start ∷ []) in
+    let at : length (all_known start) - 1 ≡ length (side_known 0 start.sides) + 0 = omega arith in
+    rw (is, at) (get_or-append-add (side_known 0 start.sides) (common_known start ∷ []) 0 d)
 
 creates_are : (k : ℕ) (sides : List (Option Numbers)) → creates_of (side_known k sides) ≡ side_entries k sides
 creates_are k [] = refl
@@ -65,35 +55,25 @@ pub opening_created : (start : Start) → creates_of (all_known start) ≡ openi
 opening_created start =
     map-append (λ (k : Known). Create 0 k.name k.contents.refs k.contents.numbers)
     (side_known 0 start.sides) (common_known start ∷ [])
-    ∙ ap (λ (l : List Entry). l
-    ++ Create 0 (common_name start) (side_names 0 start.sides) start.numbers ∷ [])
+    ∙ ap (λ (l : List Entry). l ++ Create 0 (common_name start) (side_names 0 start.sides) start.numbers ∷ [])
     (creates_are 0 start.sides)
 
 -- a Create that stands comes behind those before it
 pub next_stands : (firsts : List Known) (i : ℕ) (d : Known) (entries : List Entry) (e : Entry)
-    → i < length firsts
-    → AllStand [] (creates_of firsts) → entries ≡ creates_of (take i firsts)
+    → i < length firsts → AllStand [] (creates_of firsts) → entries ≡ creates_of (take i firsts)
     → e ≡ Create 0 (get_or firsts i d).name (get_or firsts i d).contents.refs
     (get_or firsts i d).contents.numbers
     → Stands (store_of entries) e
 next_stands firsts i d entries e low stand same is =
-    let cut : take i firsts ++ (get_or firsts i d ∷ drop (i + 1) firsts) ≡ firsts =
-    ap (λ (l : List Known). take i firsts ++ l) (sym (drop_more firsts i d low))
-    ∙ take-append-drop i firsts in
-    let parts : creates_of firsts ≡ creates_of (take i firsts)
-    ++ creates_of (get_or firsts i d ∷ drop (i + 1) firsts) =
-    ap creates_of (sym cut)
-    ∙ map-append (λ (k : Known). Create 0 k.name k.contents.refs k.contents.numbers) (take i firsts)
-    (get_or firsts i d ∷ drop (i + 1) firsts) in
-    let both = all_stand_parts [] (creates_of (take i firsts))
-    (creates_of (get_or firsts i d ∷ drop (i + 1) firsts))
-    (subst (AllStand []) parts stand) in
-    subst (λ (l : List Entry). Stands (store_of l) e) (sym same)
-    (subst (Stands (store_of (creates_of (take i firsts)))) (sym is) both.1.0)
+    let behind : List Known = get_or firsts i d ∷ drop (i + 1) firsts in
+    let parts : creates_of firsts ≡ creates_of (take i firsts) ++ creates_of behind =
+    ap creates_of (sym (take-append-drop i firsts) ∙ ap (λ (l : List Known). take i firsts ++ l) (drop_more firsts i d low))
+    ∙ map-append (λ (k : Known). Create 0 k.name k.contents.refs k.contents.numbers) (take i firsts) behind in
+    let both = all_stand_parts [] (creates_of (take i firsts)) (creates_of behind) (subst (AllStand []) parts stand) in
+    rw (same, is) both.1.0
 
 -- and is on no object that is there
 pub next_stamp : (s : PlainStore) (e : Entry) (q : ℕ) (n : Name) (refs : Refs) (numbers : Numbers) (end : ℕ)
     → e ≡ Create q n refs numbers → Stands s e → HasNextStamp s e end
 next_stamp s e q n refs numbers end is stands =
-    let fresh = (subst (Stands s) is stands).fresh in
-    subst (λ (z : Entry). HasNextStamp s z end) (sym is) (rw fresh tt)
+    let fresh = (subst (Stands s) is stands).fresh in rw is (rw fresh tt)

@@ -1,4 +1,7 @@
 -- The words that these proofs speak of, and the lemmas of lower crates that they cite, from one place.
+pub use Rattle.hm_moves.proofs.Placed.{versions_some}
+pub use Rattle.hm_moves.proofs.Held.{each_some}
+pub use Rattle.std.proofs.lemmas.Grind.{common_steps}
 pub use Rattle.std.proofs.Math.Path.{fun_ext}
 pub use Rattle.std.proofs.lemmas.Bool.Decides.{nat_tests}
 pub use Rattle.std.proofs.lemmas.List.{get_or-set_other, get_or-set_same, length-append, length-map, length-replicate, length-set, map-append, map-set, set-get_or, take-append-le, take_all}

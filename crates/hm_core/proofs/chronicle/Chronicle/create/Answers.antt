@@ -1,5 +1,5 @@
 -- The place of a new object comes behind those of its maker's objects.
-use Rattle.std.proofs.Common.{◌≡◌, ◌∷◌, ◌++◌, [], List, length, ap, ◌∙◌, arith}
+use Rattle.std.proofs.Common.{◌≡◌, ◌∷◌, ◌++◌, [], List, length, ap, ◌∙◌, arith, sym}
 use Rattle.hm_core.proofs.Words.{Entry, PlainStore, ChronicleState}
 use Rattle.hm_core.proofs.ChronicleFacts.{chronicle_created, written_same, written_to, written_at}
 use Rattle.hm_core.proofs.chronicle.Chronicle.create.Goals as goal
@@ -9,8 +9,7 @@ invariant_of-self-in_err-push c =
     let wide : length c.self.inside.places.items ≡ c.args.self.now.makers =
     ap (λ (z : ChronicleState). z.makers) c.self.view_is in
     let lists = written_same (λ places. places.items) c.self.inside.places.items c.args.name.maker _
-    c.push.new.self
-    (omega arith) c.index_mut.ensures.value c.in_err-push.ensures.items in
+    c.push.new.self (omega arith) c.index_mut.ensures.value c.in_err-push.ensures.items in
     rw (c.try_reserve.ensures.items, c.try_reserve-2.ensures.items, lists) c.self.invariant
 
 pub invariant_of-self-2 : goal.invariant_of-self-2
@@ -18,8 +17,6 @@ invariant_of-self-2 c =
     let same = ap (λ (z : ChronicleState). z.entries) c.self.view_is in
     let n : c.len-place.result ≡ length c.self.inside.store.items = c.len-place.ensures
     ∙ (c.try_reserve-2.new.self.ok.0 ∙ ap length c.try_reserve-2.ensures.items) in
-    let more : c.push.new.self.items ≡ c.index_mut.result.now.items ++ c.len-place.result ∷ [] =
-    c.in_ok-push.ensures.items in
     let stored : c.push-2.new.self.items ≡ c.self.inside.store.items ++ (c.args.name, c.args.contents) ∷ [] =
     (rw c.unwrap.ensures at c.push-2.ensures.items)
     ∙ ap (λ (l : PlainStore). l ++ (c.args.name, c.args.contents) ∷ []) c.try_reserve-2.ensures.items in
@@ -29,11 +26,9 @@ invariant_of-self-2 c =
     let wide : length c.self.inside.places.items ≡ c.args.self.now.makers =
     ap (λ (z : ChronicleState). z.makers) c.self.view_is in
     let lists = written_to (λ places. places.items) c.self.inside.places.items c.args.name.maker
-    c.index_mut.result.now c.push.new.self
-    (omega arith) c.index_mut.ensures.value _ more in
+    c.index_mut.result.now c.push.new.self (omega arith) c.index_mut.ensures.value _ c.in_ok-push.ensures.items in
     let at = written_at (λ places. places.items) c.self.inside.places.items c.args.name.maker
-    c.index_mut.result.now c.push.new.self
-    (omega arith) c.index_mut.ensures.value in
-    rw (entered, stored, lists, n) (chronicle_created _ _ _ _ same c.self.invariant c.args.entry.now
-    c.requires.stands
-    c.args.name c.args.contents _ c.requires.effect at c.requires.count)
+    c.index_mut.result.now c.push.new.self (omega arith) c.index_mut.ensures.value in
+    rw (entered, stored, lists, n) (chronicle_created _ _ _ c.self.invariant c.args.entry.now
+    (rw (sym same) at c.requires.stands) c.args.name c.args.contents _ (rw (sym same) at c.requires.effect) at
+    (rw (sym same) at c.requires.count))
