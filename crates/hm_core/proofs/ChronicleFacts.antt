@@ -6,10 +6,10 @@ use Rattle.hm_core.proofs.Words.{length-set, length-map, map-set, set-get_or, sl
 use Rattle.std.proofs.lemmas.List.{length_push, get_or-map}
 use Rattle.hm_model.specs.declared.object.Field.{Field}
 use Rattle.hm_model.specs.declared.entry.Tried.{Tried}
-use Rattle.hm_model.specs.Store.{IsWellMade, with_changed}
+use Rattle.hm_model.specs.Store.{with_changed}
 use Rattle.hm_model.specs.Effect.{with_field, with_all, effect_of}
 use Rattle.hm_model.specs.History.{store_after}
-use Rattle.hm_model.proofs.StoreFacts.{other_names, is_same-other, contents_of-push_split, contents_of-push_other, contents_of-changed_other, made_count-push, made_count-changed}
+use Rattle.hm_model.proofs.StoreFacts.{other_names, contents_of-push_split, contents_of-push_other, contents_of-changed_other, made_count-push, made_count-changed}
 use Rattle.hm_model.proofs.HistoryFacts.{store_after-append, all_stand_append, well_made_stays}
 use Rattle.hm_model.proofs.WellMade.{well_made_nil, changed_split}
 use Rattle.hm_core.specs.Chronicles.{ArePlaces, IsChronicle}

@@ -1,5 +1,5 @@
 -- Words of a draft that name a version no more, once that is let go.
-use Rattle.std.proofs.Common.{◌≡◌, ◌<◌, ◌≤◌, ◌+◌, ℕ, zero, suc, List, [], ◌∷◌, length, get_or, set, Option, Some, None, refl, sym, ap, ◌∙◌, subst, arith}
+use Rattle.std.proofs.Common.{◌≡◌, ◌<◌, ◌≤◌, ◌+◌, ℕ, zero, suc, List, [], ◌∷◌, length, get_or, set, Option, Some, None, refl, sym, ap, ◌∙◌, arith}
 use Rattle.hm_core.proofs.Words.{length-set, get_or-set_same, get_or-set_other, ℕ_discrete, dite, Known}
 use Rattle.std.proofs.lemmas.List.{ext_get_or}
 use Rattle.hm_moves.specs.After.{unless_named, unnamed_from, unnamed}
@@ -26,27 +26,21 @@ pub unnamed_none : (k : Known) (old : List (Option ℕ)) → AreUnnamedTo k 0 ol
 unnamed_none k old = record { long = refl; before = λ j low. absurd (omega arith); behind = λ j low. refl }
 
 pub unnamed_more : (k : Known) (i : ℕ) (old new : List (Option ℕ)) (word : Option ℕ)
-    → AreUnnamedTo k i old new
-    → i < length old → word ≡ unless_named k i (get_or new i None)
+    → AreUnnamedTo k i old new → i < length old → word ≡ unless_named k i (get_or new i None)
     → AreUnnamedTo k (i + 1) old (set new i word)
-unnamed_more k i old new word h low is =
-    let long = h.long in
-    record {
-      long = length-set new i word ∙ h.long;
-      before = λ j less. dite (ℕ_discrete j i)
-          (λ (e : j ≡ i). subst (λ (n : ℕ). get_or (set new i word) n None
-          ≡ unless_named k n (get_or old n None)) (sym e)
-          (get_or-set_same new i word None (omega arith)
-          ∙ (is ∙ ap (unless_named k i) (h.behind i (omega arith)))))
-          (λ ne. get_or-set_other new i j word None ne ∙ h.before j (omega arith));
-      behind = λ j more. get_or-set_other new i j word None (λ z. omega arith) ∙ h.behind j (omega arith);
-    }
+unnamed_more k i old new word h low is = record {
+  long = length-set new i word ∙ h.long;
+  before = λ j less. dite (ℕ_discrete j i)
+      (λ (e : j ≡ i). let long = h.long in rw (e, sym (h.behind i (omega arith)), sym is)
+      (get_or-set_same new i word None (omega arith)))
+      (λ ne. get_or-set_other new i j word None ne ∙ h.before j (omega arith));
+  behind = λ j more. get_or-set_other new i j word None (λ z. omega arith) ∙ h.behind j (omega arith);
+}
 
 pub unnamed_all : (k : Known) (i : ℕ) (old new : List (Option ℕ)) → AreUnnamedTo k i old new → length old ≤ i
     → new ≡ unnamed (Some k) old
 unnamed_all k i old new h far =
     let long = h.long in
     ext_get_or None new (unnamed_from k 0 old) (h.long ∙ sym (unnamed_long k 0 old))
-    (λ j low. h.before j (omega arith)
-    ∙ (ap (λ (n : ℕ). unless_named k n (get_or old j None)) (let at : j ≡ 0 + j = omega arith in at)
-    ∙ sym (unnamed_at k 0 old j)))
+    (λ j low. let at : j ≡ 0 + j = omega arith in h.before j (omega arith)
+    ∙ (ap (λ (n : ℕ). unless_named k n (get_or old j None)) at ∙ sym (unnamed_at k 0 old j)))

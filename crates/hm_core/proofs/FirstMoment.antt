@@ -1,7 +1,7 @@
 -- The moment that a fresh machine tells: it is fresh, and sound.
-use Rattle.std.proofs.Common.{◌≡◌, ◌≢◌, ◌<◌, ◌≤◌, ◌-◌, ◌*◌, ℕ, zero, suc, ne_eqb, List, [], ◌∷◌, ◌++◌, length, map, get_or, take, replicate, Option, Some, None, refl, sym, ap, ◌∙◌, subst, arith, ⊎_elim, suc-mul}
+use Rattle.std.proofs.Common.{◌≡◌, ◌≢◌, ◌<◌, ◌≤◌, ◌-◌, ℕ, zero, suc, ne_eqb, List, [], ◌∷◌, ◌++◌, length, map, get_or, replicate, Option, Some, None, refl, sym, ap, ◌∙◌, subst, arith}
 use Rattle.std.specs.Prelude.{slice_get}
-use Rattle.hm_core.proofs.Words.{versions_some, fun_ext, length-append, length-map, length-replicate, length-set, map-append, get_or-set_same, get_or-set_other, take_all, ℕ_discrete, dite, some, get_elem?, Shape, version_count, Start, Entry, AnyUsage, opening_of, Known, Part, View, Index, IsPublished, link_of, Carries, common_known, all_known, many, Row, SeatState, no_seat, HandState, fresh_hand, no_hand, Moment, any_store, any_entry, core_of, hand_at, index_of, no_row, own_part, places_of, row_at, seat_view, site_of, IsSound, IsSoundHand, creates_of, first_seats}
+use Rattle.hm_core.proofs.Words.{fun_ext, length-append, length-map, length-replicate, length-set, map-append, get_or-set_same, get_or-set_other, take_all, ℕ_discrete, dite, some, get_elem?, Shape, version_count, Start, Entry, AnyUsage, opening_of, Known, Part, View, Index, IsPublished, link_of, Carries, common_known, all_known, many, Row, SeatState, no_seat, HandState, fresh_hand, no_hand, Moment, any_store, any_entry, core_of, hand_at, index_of, no_row, own_part, places_of, row_at, seat_view, site_of, IsSound, IsSoundHand, creates_of, first_seats}
 use Rattle.std.proofs.lemmas.Nat.{mul-lt}
 use Rattle.std.proofs.lemmas.List.{get_or-replicate}
 use Rattle.hm_model.specs.History.{starting_count}
@@ -44,7 +44,8 @@ seat_of f seen (suc n) j v e =
     let cut = map-append f (first_seats seen n) (last ∷ []) in
     let long = length-map (first_seats seen n) f in
     let count = seats_long seen n in
-    grind (arith, seat_of f seen n j v, at_end (map f (first_seats seen n)) (f last) v j (ap (λ l. get_elem? l j) (sym cut) ∙ e))
+    let here = at_end (map f (first_seats seen n)) (f last) v j (ap (λ l. get_elem? l j) (sym cut) ∙ e) in
+    grind (arith, seat_of f seen n j v, here)
 
 -- no seat has seen more
 bound_push : (xs : List SeatState) (x d : SeatState) (top : ℕ) → ((j : ℕ) → (get_or xs j d).seen ≤ top)

@@ -2,7 +2,7 @@
 use Rattle.std.proofs.Common.{◌≡◌, ◌<◌, ◌+◌, ◌-◌, ℕ, List, [], ◌∷◌, ◌++◌, length, get_or, take, drop, replicate, Option, Some, None, refl, sym, ap, ◌∙◌, subst, arith, append_assoc, append-nil}
 use Rattle.hm_core.proofs.Words.{length-append, map-append, Name, Start, Entry, Create, Refs, Numbers, PlainStore, Stands, new_contents, store_of, AllStand, common_name, opening_of, side_entries, side_names, all_stand_parts, Known, all_known, common_known, HasNextStamp, AddsSide, creates_of}
 use Rattle.std.proofs.lemmas.List.{drop_more, get_or-append-add, take-append-drop}
-use Rattle.hm_model.specs.History.{side_count, starting_name}
+use Rattle.hm_model.specs.History.{starting_name}
 use Rattle.hm_moves.specs.Fresh.{side_known, starting_known}
 use Rattle.hm_moves.proofs.Fresh.{sides_length}
 use Rattle.hm_moves.proofs.FirstWords.{first_known, first_name}
@@ -67,7 +67,8 @@ pub next_stands : (firsts : List Known) (i : ℕ) (d : Known) (entries : List En
 next_stands firsts i d entries e low stand same is =
     let behind : List Known = get_or firsts i d ∷ drop (i + 1) firsts in
     let parts : creates_of firsts ≡ creates_of (take i firsts) ++ creates_of behind =
-    ap creates_of (sym (take-append-drop i firsts) ∙ ap (λ (l : List Known). take i firsts ++ l) (drop_more firsts i d low))
+    ap creates_of (sym (take-append-drop i firsts)
+    ∙ ap (λ (l : List Known). take i firsts ++ l) (drop_more firsts i d low))
     ∙ map-append (λ (k : Known). Create 0 k.name k.contents.refs k.contents.numbers) (take i firsts) behind in
     let both = all_stand_parts [] (creates_of (take i firsts)) (creates_of behind) (subst (AllStand []) parts stand) in
     rw (same, is) both.1.0

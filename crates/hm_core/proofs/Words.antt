@@ -1,5 +1,4 @@
 -- The words that these proofs speak of, and the lemmas of lower crates that they cite, from one place.
-pub use Rattle.hm_moves.proofs.Placed.{versions_some}
 pub use Rattle.hm_moves.proofs.Held.{each_some}
 pub use Rattle.std.proofs.lemmas.Grind.{common_steps}
 pub use Rattle.std.proofs.Math.Path.{fun_ext}

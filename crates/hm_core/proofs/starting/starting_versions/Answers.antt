@@ -1,6 +1,6 @@
 -- The side objects are added one after another, then the common object.
-use Rattle.std.proofs.Common.{◌≡◌, ◌∷◌, [], List, Option, None, get_or, length, sym, subst, rules}
-use Rattle.hm_core.proofs.Words.{Numbers, Refs, Known, AddsSide}
+use Rattle.std.proofs.Common.{◌≡◌, ◌∷◌, [], List, length, rules}
+use Rattle.hm_core.proofs.Words.{Refs, Known}
 use Rattle.hm_moves.proofs.FirstWords.{four_sides}
 use Rattle.hm_core.proofs.FirstVersions.{AreAdded, all_added, none_added, one_added}
 use Rattle.hm_core.proofs.starting.starting_versions.Goals as goal
@@ -12,12 +12,8 @@ returns c =
     let names : Refs = c.in_ok-add_side.field-0 ∷ c.in_ok-add_side-2.field-0 ∷ c.in_ok-add_side-3.field-0
     ∷ c.in_ok-add_side-4.field-0 ∷ [] in
     let sides : AreAdded [] c.args.start.sides names after =
-    subst (λ (sides : List (Option Numbers)). AreAdded [] sides names after)
-    (sym (four_sides c.args.start.sides four))
-    (one_added [] _ _ _ _ _ after
-    (subst (λ (l : List Known). AddsSide l (get_or c.args.start.sides 0 None) c.in_ok-add_side.field-0
-    c.add_side.new.firsts.items) c.in_ok-firsts.ensures.items
-    c.in_ok-add_side.ensures.added)
+    rw (four_sides c.args.start.sides four)
+    (one_added [] _ _ _ _ _ after (rw c.in_ok-firsts.ensures.items at c.in_ok-add_side.ensures.added)
     (one_added _ _ _ _ _ _ after c.in_ok-add_side-2.ensures.added
     (one_added _ _ _ _ _ _ after c.in_ok-add_side-3.ensures.added
     (one_added _ _ _ _ _ _ after c.in_ok-add_side-4.ensures.added (none_added after))))) in

@@ -1,5 +1,5 @@
 -- No maker has a place.
-use Rattle.std.proofs.Common.{◌≡◌, [], length, sym, ap, ◌∙◌, arith}
+use Rattle.std.proofs.Common.{◌≡◌, [], length, ap, ◌∙◌, arith}
 use Rattle.hm_core.proofs.Words.{length-map, length-replicate}
 use Rattle.hm_core.proofs.ChronicleFacts.{chronicle_empty}
 use Rattle.hm_core.proofs.chronicle.Chronicle.new.Goals as goal
@@ -10,8 +10,7 @@ invariant_of-result c =
 
 pub returns : goal.returns
 returns c =
-    let wide : length c.loop.places.items ≡ c.loop.counter =
-    sym (length-map c.loop.places.items (λ places. places.items))
-    ∙ (ap length c.loop.invariant ∙ length-replicate c.loop.counter []) in
-    let all : c.loop.counter ≡ c.args.makers = omega arith in
-    λ i. record { makers = (wide ∙ all) i; entries = c.new-2.ensures.items i }
+    let wide = length-map c.loop.places.items (λ places. places.items) in
+    let long = ap length c.loop.invariant ∙ length-replicate c.loop.counter [] in
+    let all : length c.loop.places.items ≡ c.args.makers = omega arith in
+    λ i. record { makers = all i; entries = c.new-2.ensures.items i }
