@@ -78,16 +78,11 @@ places_is rows to row (Some k) low =
     let there : (r : ℕ) → r ≢ row → row_at (set rows row new) r ≡ row_at rows r =
     λ r ne. get_or-set_other rows row r new no_row ne in
     let used : used_of (set rows row new) ≡ raised (used_of rows) row = fun_ext (λ r. dite (ℕ_discrete r row)
-    (λ e. rw (eq-eqb r row e) (ap (λ (z : Row). z.used) (here r e)
-    ∙ ap (λ (j : ℕ). used_of rows j + 1) (sym e)))
-    (λ ne. rw (ne_eqb r row ne) (ap (λ (z : Row). z.used) (there r ne)))) in
+    (λ e. rw (eq-eqb r row e) (let h = here r e in cc)) (λ ne. rw (ne_eqb r row ne) (let h = there r ne in cc))) in
     let made : made_of (set rows row new) ≡ raised (made_of rows) row = fun_ext (λ r. dite (ℕ_discrete r row)
-    (λ e. rw (eq-eqb r row e) (ap (λ (z : Row). z.made) (here r e)
-    ∙ ap (λ (j : ℕ). made_of rows j + 1) (sym e)))
-    (λ ne. rw (ne_eqb r row ne) (ap (λ (z : Row). z.made) (there r ne)))) in
+    (λ e. rw (eq-eqb r row e) (let h = here r e in cc)) (λ ne. rw (ne_eqb r row ne) (let h = there r ne in cc))) in
     let freed : freed_of (set rows row new) ≡ freed_of rows = fun_ext (λ r. dite (ℕ_discrete r row)
-    (λ e. ap (λ (z : Row). z.freed) (here r e) ∙ ap (freed_of rows) (sym e))
-    (λ ne. ap (λ (z : Row). z.freed) (there r ne))) in
+    (λ e. let h = here r e in cc) (λ ne. let h = there r ne in cc)) in
     λ i. record { used = used i; made = made i; freed = freed i; to = to }
 
 -- an own version more takes a place more
@@ -207,24 +202,7 @@ module _ (m : Moment) (q : ℕ) (mv : Move) where
         seat (own_with e)
         ∙ ap (λ (l : List Entry). set (map (seat_view m) m.seats) q
         (view l (slice_set (map (own_part m) (seat_at m q).parts) 0 (part_after p mv x found)))) (own_seen e) in
-        (λ i. record {
-          heap = record {
-            words = after.words;
-            index = index i;
-            places = record (places_of after) { to = to i };
-            history = after.history;
-          };
-          views = views i;
-        })
-        ∙ (λ i. record {
-          heap = record {
-            words = after.words;
-            index = index_with ix fresh;
-            places = places i;
-            history = after.history;
-          };
-          views = (applied (core_of m) q 0 (own_view m q) p mv).views;
-        })
+        cc
 
     good_after : Good any_store any_entry (site_of m) (core_of after)
     good_after = subst (λ (c : Core AnyUsage). Good any_store any_entry (site_of m) c) (sym core_after)

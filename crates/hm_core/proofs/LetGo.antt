@@ -38,22 +38,12 @@ abbrev later : ℕ → ℕ → ℕ
 later a b = if nat_lt a b then b else a
 
 later_low : (top a b : ℕ) → a ≤ top → b ≤ top → later a b ≤ top
-later_low top a b x y = go (nat_lt a b)
-  where
-    go : (t : Bool) → (if t then b else a) ≤ top
-    go true = y
-    go false = x
+later_low top a b x y = elim (nat_lt a b) as (λ t. (if t then b else a) ≤ top) [ true ↦ y | false ↦ x ]
 
 longer_is : (h : List Entry) (a b : ℕ) → a ≤ length h → b ≤ length h
     → take (later a b) h ≡ longer (take a h) (take b h)
 longer_is h a b la lb =
-    let x = length-take-le a h la in
-    let y = length-take-le b h lb in
-    pick (nat_lt a b) ∙ (λ i. if nat_lt (sym x i) (sym y i) then take b h else take a h)
-  where
-    pick : (t : Bool) → take (if t then b else a) h ≡ (if t then take b h else take a h)
-    pick true = refl
-    pick false = refl
+    rw (length-take-le a h la, length-take-le b h lb) (grind arith)
 
 module _ (m : Moment) (q : ℕ) (o : Option Known) where
   -- the plain data after the caller let go
@@ -162,15 +152,9 @@ module _ (m : Moment) (q : ℕ) (o : Option Known) where
         let views = map-set f (set m.seats q (both other)) other no_seat
         ∙ ap (λ (l : List (View AnyUsage)). set l other (spent_view {U = AnyUsage}))
         (map-set f m.seats q (both other)) in
-        (λ i. record (core_of letting_go) { views = views i })
-        ∙ (λ i. record (core_of letting_go) {
-          views = set (set (core_of letting_go).views q (one i)) other spent_view;
-        })
-        ∙ (λ i. record (core_is i) {
-          views = set (set (core_is i).views q
-              (view (longer (view_is i).seen (view_else other ne inside i).seen)
-              ((view_is i).parts ++ (view_else other ne inside i).parts))) other spent_view;
-        })
+        let c = core_is in
+        let v = view_is in
+        let w = view_else other ne inside in cc
 
     hands_sound : (r : ℕ) → r < m.shape.callers → IsSoundHand letting_go (hand_at letting_go r)
     hands_sound r small = dite (ℕ_discrete r q)
@@ -231,16 +215,7 @@ module _ (a m : Moment) (same : a ≡ m) (sound : IsSound m) (q : ℕ)
   noted_is h h' s note seen seats eh eh' es ec en more =
       let h_is = hand_read a m same sound q awake h eh in
       let s_is = seat_read a m same sound q awake s es in
-      (λ i. record a { hands = set a.hands q (eh' i); seats = more i })
-      ∙ (λ i. record a { hands = set a.hands q (hand_letting h o); seats = a.seats ++ en i ∷ [] })
-      ∙ (λ i. record a {
-        hands = set a.hands q (hand_letting h o);
-        seats = a.seats ++ record { seen = ec i; parts = [] } ∷ [];
-      })
-      ∙ (λ i. record (same i) {
-        hands = set (same i).hands q (hand_letting (h_is i) o);
-        seats = (same i).seats ++ record { seen = (s_is i).seen; parts = [] } ∷ [];
-      })
+      cc
 
   -- and after the meeting
   pub met_is : (other : ℕ) (h h' : HandState) (s t u n spent : SeatState) (parts : List ℕ) (seen : ℕ)
@@ -251,15 +226,5 @@ module _ (a m : Moment) (same : a ≡ m) (sound : IsSound m) (q : ℕ)
   met_is other h h' s t u n spent parts seen inside eh eh' es et eu ec ep en ez =
       let h_is = hand_read a m same sound q awake h eh in
       let s_is = seat_read a m same sound q awake s es in
-      let seen_is : seen ≡ (seat_at m other).seen = ec
-      ∙ ap (λ (z : SeatState). z.seen) (other_read a m same sound q awake other t inside et) in
-      let parts_is : parts ≡ (seat_at m other).parts = ep
-      ∙ ap (λ (z : SeatState). z.parts) (other_read a m same sound q awake other u inside eu) in
-      (λ i. record a { hands = set a.hands q (eh' i); seats = set (set a.seats q (en i)) other (ez i) })
-      ∙ (λ i. record (same i) {
-        hands = set (same i).hands q (hand_letting (h_is i) o);
-        seats = set (set (same i).seats q record {
-          seen = later (s_is i).seen (seen_is i);
-          parts = (s_is i).parts ++ parts_is i;
-        }) other no_seat;
-      })
+      let t_is = other_read a m same sound q awake other t inside et in
+      let u_is = other_read a m same sound q awake other u inside eu in cc

@@ -2,7 +2,7 @@
 use Rattle.std.proofs.Common.{◌≡◌, ◌<◌, ℕ, zero, suc, List, [], ◌∷◌, map, Option, Some, None, IfSome, refl, sym, ap, ◌∙◌, subst, arith, ◌⊎◌, ◌↔◌, IsNone, inl, inr, ⊎_elim, ◌≤◌}
 use Rattle.std.specs.Prelude.{slice_get}
 use native.Mathlib.Decide.{dec_le}
-use Rattle.hm_core.proofs.Words.{slice_get_past, slice_get-get_or, get_or_from_slice_get, some, some-injective, get_elem?, AnyUsage, Known, Part, View, IsPublished, PartIsGood, Version, made_count, store_of, MayLookInto, next_name, IsAwake, IsLookable, SeatState, Moment, core_of, index_of, own_part, own_view, places_of, seat_view, site_of, IsSound}
+use Rattle.hm_core.proofs.Words.{slice_get_past, slice_get-get_or, get_or_from_slice_get, some, some-injective, get_elem?, AnyUsage, Known, Part, View, IsPublished, PartIsGood, Version, made_count, store_of, MayLookInto, next_name, IsAwake, IsLookable, SeatState, Moment, core_of, index_of, own_part, own_view, places_of, seat_view, site_of, IsSound, dite}
 use mathlib.Core.Option.{some-ne-none}
 use Rattle.hm_shape.specs.Words.{word_count}
 use Rattle.hm_moves.specs.Places.{IsFit}
@@ -133,18 +133,10 @@ module _ (m : Moment) where
 pub word_past : (m : Moment) → IsSound m → (i : ℕ) (o : Option ℕ) → o ≡ slice_get m.words i
     → IsNone o ↔ (word_count m.shape ≤ i)
 word_past m sound i o is = (
-  λ none. ⊎_elim (λ (h : word_count m.shape ≤ i). h) (λ (h : i < word_count m.shape). absurd (within h none))
-      (le_or_lt (word_count m.shape) i),
+  λ none. dite (dec_le (word_count m.shape) i) (λ past. past) (λ low. absurd (within (omega arith) none)),
   λ past. subst (λ (z : Option ℕ). IsNone z) (sym (is ∙ slice_get_past m.words i (let wide = sound.good.heap.wide in omega arith))) refl,
 )
   where
-    le_or_lt : (a b : ℕ) → (a ≤ b) ⊎ (b < a)
-    le_or_lt a b = go (dec_le a b)
-      where
-        go : Dec (a ≤ b) → (a ≤ b) ⊎ (b < a)
-        go (yes d) = inl d
-        go (no d) = inr (omega arith)
-
     within : i < word_count m.shape → IsNone o → ⊥
     within low none =
         let wide = sound.good.heap.wide in
