@@ -170,14 +170,7 @@ module _ (m : Moment) (q : ℕ) (mv : Move) where
     own_part_after : own_part after q ≡ part_after p mv x found
     own_part_after =
         let calls = calls_after q m.history (calls_of q m.history) e entry_own refl in
-        λ i. record {
-          site = site_of m;
-          number = q;
-          draft = (hand_is i).draft;
-          hands = (hand_is i).hands;
-          calls = record { mine = calls i };
-          cycle = record {};
-        }
+        let hand = hand_is in cc
 
     own_seen : (o : Option Entry)
         → take (seat_with (seat_at m q) (length m.history) o).seen (m.history ++ listed o)

@@ -78,7 +78,7 @@ module _ (m : Moment) (q : ℕ) (o : Option Known) where
     hand_else r ne = get_or-set_other m.hands q r (hand_letting (hand_at m q) o) no_hand ne
 
     part_is : own_part letting_go q ≡ letting (own_part m q) o
-    part_is = λ i. record (own_part m q) { draft = (hand_is i).draft; hands = (hand_is i).hands }
+    part_is = let h = hand_is in cc
 
     view_is : own_view letting_go q ≡ seat_letting m q o
     view_is = ap (λ (l : List (Part AnyUsage)). view (own_view m q).seen l)
@@ -93,13 +93,8 @@ module _ (m : Moment) (q : ℕ) (o : Option Known) where
     core_is =
         let to = to_same m.hands q (hand_letting (hand_at m q) o) below refl in
         let same : set m.seats q (seat_at m q) ≡ m.seats = set-get_or m.seats q no_seat in
-        let views = ap (map (seat_view letting_go)) (sym same)
-        ∙ views_set m sound q awake letting_go None tt refl (sym (append-nil m.history)) hand_else
-        (letting (own_part m q) o) part_is (seat_at m q) refl in
-        λ i. record {
-          heap = record (core_of m).heap { places = record (places_of m) { to = to i } };
-          views = views i;
-        }
+        let views = views_set m sound q awake letting_go None tt refl (sym (append-nil m.history)) hand_else
+        (letting (own_part m q) o) part_is (seat_at m q) refl in cc
 
     -- the state that lets go is led to
     lets_go : Leads any_store any_entry (core_of m) (core_letting m q o)
@@ -127,9 +122,7 @@ module _ (m : Moment) (q : ℕ) (o : Option Known) where
         let views : map (seat_view letting_go) (m.seats ++ note ∷ [])
         ≡ map (seat_view letting_go) m.seats ++ view (own_view m q).seen [] ∷ [] =
         map-append (seat_view letting_go) m.seats (note ∷ []) in
-        (λ i. record (core_of letting_go) { views = views i })
-        ∙ (λ i. record (core_is i) { views = (core_is i).views ++ view (own_view m q).seen [] ∷ [] })
-        ∙ (λ i. record (core_letting m q o) { views = twice i ++ view (own_view m q).seen [] ∷ [] })
+        let c = core_is in let t = twice in cc
       where
         set_same : {A : Type 0} (l : List A) (i : ℕ) (a : A) → get_elem? l i ≡ some a → set l i a ≡ l
         set_same [] i a e = refl
@@ -149,9 +142,8 @@ module _ (m : Moment) (q : ℕ) (o : Option Known) where
         ((own_view letting_go q).parts ++ (own_view letting_go other).parts) =
         λ i. view (longer_is m.history s.seen t.seen (sound.seen q) (sound.seen other) i)
         (map-append (own_part letting_go) s.parts t.parts i) in
-        let views = map-set f (set m.seats q (both other)) other no_seat
-        ∙ ap (λ (l : List (View AnyUsage)). set l other (spent_view {U = AnyUsage}))
-        (map-set f m.seats q (both other)) in
+        let second = map-set f (set m.seats q (both other)) other no_seat in
+        let first = map-set f m.seats q (both other) in
         let c = core_is in
         let v = view_is in
         let w = view_else other ne inside in cc
@@ -208,22 +200,22 @@ module _ (m : Moment) (q : ℕ) (o : Option Known) where
 module _ (a m : Moment) (same : a ≡ m) (sound : IsSound m) (q : ℕ)
     (awake : IsAwake (core_of m) q (own_view m q) (own_part m q)) (o : Option Known) where
   -- the plain data that the code leaves are those after the split
-  pub noted_is : (h h' : HandState) (s note : SeatState) (seen : ℕ) (seats : List SeatState)
+  pub noted_is : {h h' : HandState} {s note : SeatState} {seen : ℕ} {seats : List SeatState}
       → h ≡ get_or a.hands q h → h' ≡ hand_letting h o → s ≡ get_or a.seats q s → seen ≡ s.seen
       → note ≡ record { seen = seen; parts = [] } → seats ≡ a.seats ++ note ∷ []
       → record a { hands = set a.hands q h'; seats = seats } ≡ noted m q o
-  noted_is h h' s note seen seats eh eh' es ec en more =
+  noted_is {h} {h'} {s} {note} {seen} {seats} eh eh' es ec en more =
       let h_is = hand_read a m same sound q awake h eh in
       let s_is = seat_read a m same sound q awake s es in
       cc
 
   -- and after the meeting
-  pub met_is : (other : ℕ) (h h' : HandState) (s t u n spent : SeatState) (parts : List ℕ) (seen : ℕ)
+  pub met_is : (other : ℕ) {h h' : HandState} {s t u n spent : SeatState} {parts : List ℕ} {seen : ℕ}
       → other < length m.seats → h ≡ get_or a.hands q h → h' ≡ hand_letting h o → s ≡ get_or a.seats q s
       → t ≡ get_or a.seats other t → u ≡ get_or a.seats other u → seen ≡ t.seen → parts ≡ u.parts
       → n ≡ record { seen = later s.seen seen; parts = s.parts ++ parts } → spent ≡ no_seat
       → record a { hands = set a.hands q h'; seats = set (set a.seats q n) other spent } ≡ met_with m q o other
-  met_is other h h' s t u n spent parts seen inside eh eh' es et eu ec ep en ez =
+  met_is other {h} {h'} {s} {t} {u} {n} {spent} {parts} {seen} inside eh eh' es et eu ec ep en ez =
       let h_is = hand_read a m same sound q awake h eh in
       let s_is = seat_read a m same sound q awake s es in
       let t_is = other_read a m same sound q awake other t inside et in

@@ -161,6 +161,20 @@ pub record HasRead (a m : Moment) (q : ℕ) (mv : Move) (at y : ℕ) : Type 0 wh
   pub low : at < length m.words
   pub got : y ≡ get_or a.words at y
 
+pub reading : {a m : Moment} {q : ℕ} {mv : Move} {at y : ℕ} → a ≡ m → IsSound a
+    → IsAwake (core_of m) q (own_view m q) (own_part m q)
+    → IsLawfulMove any_store any_entry m.history (own_part m q) mv → at ≡ word_of (own_part m q) mv.act
+    → at < length m.words → y ≡ get_or a.words at y → HasRead a m q mv at y
+reading is sound awake may word low got = record {
+  same = is;
+  sound = subst IsSound is sound;
+  awake = awake;
+  may = may;
+  word = word;
+  low = low;
+  got = got;
+}
+
 module _ {a m : Moment} {q : ℕ} {mv : Move} {at y : ℕ} (read : HasRead a m q mv at y) where
   abbrev w : ℕ
   w = slice_index m.words (word_of (own_part m q) mv.act)
