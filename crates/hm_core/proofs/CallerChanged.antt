@@ -16,13 +16,11 @@ map_set_agree : {A B : Type 0} (f g : A → B) (xs : List A) (q : ℕ) (y : A) (
     → ((j : ℕ) (a : A) → slice_get xs j ≡ Some a → j ≢ q → f a ≡ g a)
     → map f (set xs q y) ≡ set (map g xs) q b
 map_set_agree f g [] q y b e h = refl
-map_set_agree {A} {B} f g (x ∷ xs) zero y b e h =
-    ap (λ (c : B). c ∷ map f xs) e
-    ∙ ap (λ (l : List B). b ∷ l) (map_agree f g xs (λ j a is. h (suc j) a is (λ z. omega arith)))
-map_set_agree {A} {B} f g (x ∷ xs) (suc q) y b e h =
-    ap (λ (c : B). c ∷ map f (set xs q y)) (h 0 x refl (λ z. omega arith))
-    ∙ ap (λ (l : List B). g x ∷ l)
-    (map_set_agree f g xs q y b e (λ j a is ne. h (suc j) a is (λ z. ne (omega arith))))
+map_set_agree f g (x ∷ xs) zero y b e h =
+    let rest = map_agree f g xs (λ j a is. h (suc j) a is (λ z. omega arith)) in cc
+map_set_agree f g (x ∷ xs) (suc q) y b e h =
+    let first = h 0 x refl (λ z. omega arith) in
+    let rest = map_set_agree f g xs q y b e (λ j a is ne. h (suc j) a is (λ z. ne (omega arith))) in cc
 
 abbrev to_of : List HandState → ℕ → ℕ
 to_of hands r = (slice_index_or hands r no_hand).draft.region
@@ -41,8 +39,7 @@ module _ (m : Moment) (sound : IsSound m) (q : ℕ)
 
   pub seen_low : (j : ℕ) (s : SeatState) → slice_get m.seats j ≡ Some s → s.seen ≤ length m.history
   seen_low j s there =
-      subst (λ (z : SeatState). z.seen ≤ length m.history) (get_or_from_slice_get m.seats j s no_seat there)
-      (sound.seen j)
+      let is = get_or_from_slice_get m.seats j s no_seat there in let low = sound.seen j in grind arith
 
   seated : Awakes m q (own_view m q) (own_part m q)
   seated = seated_awake m q (own_view m q) (own_part m q) awake
@@ -72,8 +69,7 @@ module _ (m : Moment) (sound : IsSound m) (q : ℕ)
       (hands : (r : ℕ) → r ≢ q → hand_at n r ≡ hand_at m r) where
     other_part : (r : ℕ) → r ≢ q → own_part n r ≡ own_part m r
     other_part r ne =
-        let calls : calls_of r n.history ≡ calls_of r m.history = ap (calls_of r) history
-        ∙ calls_beside q r m.history (calls_of r m.history) o by (λ z. ne (sym z)) refl in
+        let calls = calls_beside q r m.history (calls_of r m.history) o by (λ z. ne (sym z)) refl in
         let h = hands r ne in cc
 
     -- the view of another seat is as it was

@@ -12,26 +12,15 @@ use Rattle.hm_core.specs.Taking.{core_letting, seat_letting, split_off, joined_t
 use Rattle.hm_core.proofs.Moments.{awake_below, view_at}
 use Rattle.hm_core.proofs.FieldsRead.{hand_read, seat_read, other_read}
 use Rattle.hm_core.proofs.CallerChanged.{other_view, own_parts, to_same, views_set}
-use Rattle.hm_core.proofs.AfterMove.{any_laws}
+use Rattle.hm_core.proofs.AfterMove.{any_laws, HasSeen, seen_set}
 
--- no seat has seen more than so much
-abbrev HasSeen : ℕ → List SeatState → Type 0
-HasSeen top seats = (j : ℕ) → (slice_index_or seats j no_seat).seen ≤ top
-
+-- no seat has seen more, with another one
 seen_push : (top : ℕ) (seats : List SeatState) (n : SeatState) → HasSeen top seats → n.seen ≤ top
     → HasSeen top (seats ++ n ∷ [])
 seen_push top [] n all low zero = low
 seen_push top [] n all low (suc j) = omega arith
 seen_push top (s ∷ ss) n all low zero = all 0
 seen_push top (s ∷ ss) n all low (suc j) = seen_push top ss n (λ i. all (suc i)) low j
-
-seen_set : (top : ℕ) (seats : List SeatState) (i : ℕ) (s : SeatState) → HasSeen top seats → s.seen ≤ top
-    → HasSeen top (set seats i s)
-seen_set top [] i s all low j = all j
-seen_set top (x ∷ xs) zero s all low zero = low
-seen_set top (x ∷ xs) zero s all low (suc j) = all (suc j)
-seen_set top (x ∷ xs) (suc i) s all low zero = all 0
-seen_set top (x ∷ xs) (suc i) s all low (suc j) = seen_set top xs i s (λ k. all (suc k)) low j
 
 -- of two counts the greater, the first where they are the same
 abbrev later : ℕ → ℕ → ℕ
@@ -119,9 +108,7 @@ module _ (m : Moment) (q : ℕ) (o : Option Known) where
     pub core_noted : core_of noted ≡ split_off m q o
     core_noted =
         let note : SeatState = record { seen = (seat_at m q).seen; parts = [] } in
-        let views : map (seat_view letting_go) (m.seats ++ note ∷ [])
-        ≡ map (seat_view letting_go) m.seats ++ view (own_view m q).seen [] ∷ [] =
-        map-append (seat_view letting_go) m.seats (note ∷ []) in
+        let views = map-append (seat_view letting_go) m.seats (note ∷ []) in
         let c = core_is in let t = twice in cc
       where
         set_same : {A : Type 0} (l : List A) (i : ℕ) (a : A) → get_elem? l i ≡ some a → set l i a ≡ l
@@ -148,16 +135,12 @@ module _ (m : Moment) (q : ℕ) (o : Option Known) where
         let v = view_is in
         let w = view_else other ne inside in cc
 
-    hands_sound : (r : ℕ) → r < m.shape.callers → IsSoundHand letting_go (hand_at letting_go r)
-    hands_sound r small = dite (ℕ_discrete r q)
-        (λ same.
-        let old = sound.hands q low in
-        subst (IsSoundHand letting_go) (sym (ap (hand_at letting_go) same ∙ hand_is))
-        record { region = old.region; room = old.room; own = old.own })
-        (λ ne.
-        let old = sound.hands r small in
-        subst (IsSoundHand letting_go) (sym (hand_else r ne))
-        record { region = old.region; room = old.room; own = old.own })
+    hands_sound : (seats : List SeatState) (r : ℕ) → r < m.shape.callers
+        → IsSoundHand (record letting_go { seats = seats }) (hand_at letting_go r)
+    hands_sound seats r small =
+        let old = sound.hands r small in dite (ℕ_discrete r q)
+        (λ same. rw (same, hand_is) (let old = sound.hands q low in record { region = old.region; room = old.room; own = old.own }))
+        (λ ne. rw (hand_else r ne) record { region = old.region; room = old.room; own = old.own })
 
     -- and are sound with such seats, where the state is good
     sound_seats : (seats : List SeatState) (d : Core AnyUsage)
@@ -172,8 +155,7 @@ module _ (m : Moment) (q : ℕ) (o : Option Known) where
       hands_size = length-set m.hands q (hand_letting (hand_at m q) o) ∙ sound.hands_size;
       seats_size = size;
       numbered = sound.numbered;
-      hands = λ r small. let old = hands_sound r small in
-          record { region = old.region; room = old.room; own = old.own };
+      hands = hands_sound seats;
       seen = seen;
     }
 

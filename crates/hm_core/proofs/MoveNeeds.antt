@@ -217,8 +217,8 @@ module _ {a m : Moment} {q : ℕ} {mv : Move} {at y : ℕ} (read : HasRead a m q
       (fresh_below m q mv read.sound read.awake read.may)
 
   -- the plain data that the code leaves are those after the move
-  pub after_is : (b row : ℕ) (known : List (Option Known)) (es : List Entry) (r r' : Row) (h h' : HandState)
-      (s s' : SeatState) (o : Option Entry) (f n : Option Known)
+  pub after_is : {b row : ℕ} {known : List (Option Known)} {es : List Entry} {r r' : Row} {h h' : HandState}
+      {s s' : SeatState} {o : Option Entry} {f n : Option Known}
       → b ≡ becomes mv.act y → row ≡ row_of_part (own_part m q) → row < length m.rows
       → known ≡ known_with a.known n → es ≡ a.history ++ listed o
       → r ≡ get_or a.rows row r → r' ≡ row_with r n
@@ -233,7 +233,7 @@ module _ {a m : Moment} {q : ℕ} {mv : Move} {at y : ℕ} (read : HasRead a m q
         hands = set a.hands q h';
         seats = set a.seats q s';
       } ≡ after m q mv
-  after_is b row known es r r' h h' s s' o f n eb erow lrow ek ees er er' eh eh' es' es'' eo ef en =
+  after_is {b} {row} {known} {es} {r} {r'} {h} {h'} {s} {s'} {o} {f} {n} eb erow lrow ek ees er er' eh eh' es' es'' eo ef en =
       let x_is = word_found in
       let r_is = row_read a m read.same read.sound q read.awake row r lrow er in
       let h_is = hand_read a m read.same read.sound q read.awake h eh in

@@ -50,8 +50,7 @@ invariant_of-self-2 c =
     let m = c.args.self.now in
     let read = reading c.self.view_is c.self.invariant.sound c.requires.awake c.requires.may
     c.word_of-at.ensures.value c.word_of-at.ensures.below c.index-x.ensures in
-    let is = after_is read c.becomes.result c.row_of-row.result _ _ _ _ _ _ _ _ _ _ _ c.becomes.ensures
-    c.row_of-row.ensures.row c.row_of-row.ensures.below c.publish.ensures.known
+    let is = after_is read c.becomes.ensures c.row_of-row.ensures.row c.row_of-row.ensures.below c.publish.ensures.known
     (ap (λ (z : ChronicleState). z.entries) c.in_ok-enter.ensures.entries) c.index_mut-3.ensures.value
     c.publish.ensures.row c.index_mut-2.ensures.value c.follow.ensures c.index_mut-seat.ensures.value
     c.in_ok-enter.ensures.seen c.entry.ensures c.finds-found.ensures c.publishes-fresh.ensures in
@@ -65,8 +64,7 @@ returns-clause-taken c =
     let m = c.args.self.now in
     let read = reading c.self.view_is c.self.invariant.sound c.requires.awake c.requires.may
     c.word_of-at.ensures.value c.word_of-at.ensures.below c.index-x.ensures in
-    let is = after_is read c.becomes.result c.row_of-row.result _ _ _ _ _ _ _ _ _ _ _ c.becomes.ensures
-    c.row_of-row.ensures.row c.row_of-row.ensures.below c.publish.ensures.known
+    let is = after_is read c.becomes.ensures c.row_of-row.ensures.row c.row_of-row.ensures.below c.publish.ensures.known
     (ap (λ (z : ChronicleState). z.entries) c.in_ok-enter.ensures.entries) c.index_mut-3.ensures.value
     c.publish.ensures.row c.index_mut-2.ensures.value c.follow.ensures c.index_mut-seat.ensures.value
     c.in_ok-enter.ensures.seen c.entry.ensures c.finds-found.ensures c.publishes-fresh.ensures in
