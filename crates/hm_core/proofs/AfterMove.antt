@@ -1,6 +1,6 @@
 -- The plain data after a move: they tell the state after it, and are sound.
-use Rattle.std.proofs.Common.{◌≡◌, ◌≢◌, ◌<◌, ◌≤◌, ◌+◌, ◌==◌, ℕ, List, [], ◌∷◌, ◌++◌, length, map, take, set, Option, Some, None, IfSome, if◌then◌else◌, eq-eqb, ne_eqb, refl, sym, ap, ◌∙◌, subst, arith, length-set, length-append, get_or-set_other, get_or-set_same}
-use Rattle.std.specs.Prelude.{slice_index, slice_set}
+use Rattle.std.proofs.Common.{◌≡◌, ◌≢◌, ◌<◌, ◌≤◌, ◌+◌, ◌==◌, ℕ, zero, suc, List, [], ◌∷◌, ◌++◌, length, map, take, set, Option, Some, None, IfSome, if◌then◌else◌, eq-eqb, ne_eqb, refl, sym, ap, ◌∙◌, subst, arith, length-set, length-append, get_or-set_other, get_or-set_same, slice_index_or}
+use Rattle.std.specs.Prelude.{slice_index, slice_index_or, slice_set}
 use Rattle.hm_core.proofs.Words.{fun_ext, take-append-le, take_all, set-get_or, slice_get_within, ℕ_discrete, dite, Version, Entry, AnyUsage, calls_of, Known, Part, Move, Index, becomes, entry_of, finds, listed, next_version, publishes, word_of, row_of_part, view, HasRoom, IsLawfulMove, Core, Good, PartIsGood, IsBy, some_more, Row, HandState, hand_after, no_hand, SeatState, no_seat, IsAwake, Moment, any_store, any_entry, core_of, hand_at, index_of, known_with, no_row, own_part, own_view, places_of, row_at, row_with, seat_at, seat_view, seat_with, site_of, IsSound, IsSoundHand}
 use Rattle.std.proofs.lemmas.Grind.{get_or-set_at}
 use Rattle.hm_model.specs.Lawful.{UsageLaws}
@@ -36,31 +36,22 @@ IsNumbered ix = (v : ℕ) (k : Known) → ix v ≡ Some k → k.version.0 ≡ v
 numbered_with : (ix : Index) (o : Option Known) → IsNumbered ix → IsNumbered (index_with ix o)
 numbered_with ix None h v n e = h v n e
 numbered_with ix (Some k) h v n e = dite (ℕ_discrete v k.version.0)
-    (λ is.
-    let here : (if v == k.version.0 then Some k else ix v) ≡ Some k = rw (eq-eqb v k.version.0 is) refl in
-    let both : Some k ≡ Some n = sym here ∙ e in
-    let same : k ≡ n = cc in
-    ap (λ (z : Known). z.version.0) (sym same) ∙ sym is)
-    (λ ne.
-    let there : (if v == k.version.0 then Some k else ix v) ≡ ix v = rw (ne_eqb v k.version.0 ne) refl in
-    h v n (sym there ∙ e))
+    (λ is. let here : (if v == k.version.0 then Some k else ix v) ≡ Some k = rw (eq-eqb v k.version.0 is) refl in cc)
+    (λ ne. h v n (let there : (if v == k.version.0 then Some k else ix v) ≡ ix v = rw (ne_eqb v k.version.0 ne) refl in
+    sym there ∙ e))
 
 known_long : (known : List (Option Known)) (o : Option Known) → length (known_with known o) ≡ length known
 known_long known None = refl
 known_long known (Some k) = length-set known k.version.0 (Some k)
 
-abbrev used_of : List Row → ℕ → ℕ
-used_of rows r = (row_at rows r).used
-
-abbrev made_of : List Row → ℕ → ℕ
-made_of rows r = (row_at rows r).made
-
-abbrev freed_of : List Row → ℕ → ℕ
-freed_of rows r = (row_at rows r).freed
-
 -- what is counted, where each caller writes into such a region
 abbrev places_by : List Row → (ℕ → ℕ) → Places
-places_by rows to = record { used = used_of rows; made = made_of rows; freed = freed_of rows; to = to }
+places_by rows to = record {
+  used = λ r. (row_at rows r).used;
+  made = λ r. (row_at rows r).made;
+  freed = λ r. (row_at rows r).freed;
+  to = to;
+}
 
 -- after one version more in a row
 places_is : (rows : List Row) (to : ℕ → ℕ) (row : ℕ) (o : Option Known) → row < length rows
@@ -70,25 +61,34 @@ places_is rows to row None low =
     let u : old.used + 0 ≡ old.used = omega arith in
     let v : old.made + 0 ≡ old.made = omega arith in
     let one : row_with old None ≡ old = λ i. record { used = u i; made = v i; freed = old.freed } in
-    ap (λ (l : List Row). places_by l to) (ap (λ (r : Row). set rows row r) one ∙ set-get_or rows row no_row)
+    let same = set-get_or rows row no_row in cc
 places_is rows to row (Some k) low =
     let new = row_with (row_at rows row) (Some k) in
     let here : (r : ℕ) → r ≡ row → row_at (set rows row new) r ≡ new =
     λ r e. get_or-set_at rows row r new no_row e low in
     let there : (r : ℕ) → r ≢ row → row_at (set rows row new) r ≡ row_at rows r =
     λ r ne. get_or-set_other rows row r new no_row ne in
-    let used : used_of (set rows row new) ≡ raised (used_of rows) row = fun_ext (λ r. dite (ℕ_discrete r row)
-    (λ e. rw (eq-eqb r row e) (ap (λ (z : Row). z.used) (here r e)
-    ∙ ap (λ (j : ℕ). used_of rows j + 1) (sym e)))
-    (λ ne. rw (ne_eqb r row ne) (ap (λ (z : Row). z.used) (there r ne)))) in
-    let made : made_of (set rows row new) ≡ raised (made_of rows) row = fun_ext (λ r. dite (ℕ_discrete r row)
-    (λ e. rw (eq-eqb r row e) (ap (λ (z : Row). z.made) (here r e)
-    ∙ ap (λ (j : ℕ). made_of rows j + 1) (sym e)))
-    (λ ne. rw (ne_eqb r row ne) (ap (λ (z : Row). z.made) (there r ne)))) in
-    let freed : freed_of (set rows row new) ≡ freed_of rows = fun_ext (λ r. dite (ℕ_discrete r row)
-    (λ e. ap (λ (z : Row). z.freed) (here r e) ∙ ap (freed_of rows) (sym e))
-    (λ ne. ap (λ (z : Row). z.freed) (there r ne))) in
+    let was = places_by rows to in
+    let now = places_by (set rows row new) to in
+    let used : now.used ≡ raised was.used row = fun_ext (λ r. dite (ℕ_discrete r row)
+    (λ e. rw (eq-eqb r row e) (let h = here r e in cc)) (λ ne. rw (ne_eqb r row ne) (let h = there r ne in cc))) in
+    let made : now.made ≡ raised was.made row = fun_ext (λ r. dite (ℕ_discrete r row)
+    (λ e. rw (eq-eqb r row e) (let h = here r e in cc)) (λ ne. rw (ne_eqb r row ne) (let h = there r ne in cc))) in
+    let freed : now.freed ≡ was.freed = fun_ext (λ r. dite (ℕ_discrete r row)
+    (λ e. let h = here r e in cc) (λ ne. let h = there r ne in cc)) in
     λ i. record { used = used i; made = made i; freed = freed i; to = to }
+
+-- no seat has seen more than so much
+abbrev pub HasSeen : ℕ → List SeatState → Type 0
+HasSeen top seats = (j : ℕ) → (slice_index_or seats j no_seat).seen ≤ top
+
+pub seen_set : (top : ℕ) (seats : List SeatState) (i : ℕ) (s : SeatState) → HasSeen top seats → s.seen ≤ top
+    → HasSeen top (set seats i s)
+seen_set top [] i s all low j = all j
+seen_set top (x ∷ xs) zero s all low zero = low
+seen_set top (x ∷ xs) zero s all low (suc j) = all (suc j)
+seen_set top (x ∷ xs) (suc i) s all low zero = all 0
+seen_set top (x ∷ xs) (suc i) s all low (suc j) = seen_set top xs i s (λ k. all (suc k)) low j
 
 -- an own version more takes a place more
 listed_more : (own : List Known) (used : ℕ) (o : Option Known) → length own ≡ used
@@ -175,14 +175,7 @@ module _ (m : Moment) (q : ℕ) (mv : Move) where
     own_part_after : own_part after q ≡ part_after p mv x found
     own_part_after =
         let calls = calls_after q m.history (calls_of q m.history) e entry_own refl in
-        λ i. record {
-          site = site_of m;
-          number = q;
-          draft = (hand_is i).draft;
-          hands = (hand_is i).hands;
-          calls = record { mine = calls i };
-          cycle = record {};
-        }
+        let hand = hand_is in cc
 
     own_seen : (o : Option Entry)
         → take (seat_with (seat_at m q) (length m.history) o).seen (m.history ++ listed o)
@@ -205,26 +198,9 @@ module _ (m : Moment) (q : ℕ) (mv : Move) where
         let views = views_set m sound q awake after e entry_own refl refl
         (λ r ne. get_or-set_other m.hands q r hand no_hand ne) (part_after p mv x found) own_part_after
         seat (own_with e)
-        ∙ ap (λ (l : List Entry). set (map (seat_view m) m.seats) q
-        (view l (slice_set (map (own_part m) (seat_at m q).parts) 0 (part_after p mv x found)))) (own_seen e) in
-        (λ i. record {
-          heap = record {
-            words = after.words;
-            index = index i;
-            places = record (places_of after) { to = to i };
-            history = after.history;
-          };
-          views = views i;
-        })
-        ∙ (λ i. record {
-          heap = record {
-            words = after.words;
-            index = index_with ix fresh;
-            places = places i;
-            history = after.history;
-          };
-          views = (applied (core_of m) q 0 (own_view m q) p mv).views;
-        })
+        in
+        let seen = own_seen e in
+        cc
 
     good_after : Good any_store any_entry (site_of m) (core_of after)
     good_after = subst (λ (c : Core AnyUsage). Good any_store any_entry (site_of m) c) (sym core_after)
@@ -245,17 +221,9 @@ module _ (m : Moment) (q : ℕ) (mv : Move) where
         subst (IsSoundHand after) (sym (get_or-set_other m.hands q r hand no_hand ne))
         record { region = old.region; room = old.room; own = old.own })
 
-    seats_seen : (j : ℕ) → (seat_at after j).seen ≤ length after.history
-    seats_seen j = dite (ℕ_discrete j q)
-        (λ same.
-        let inside = slice_get_within m.seats q (seat_at m q) (own_there m sound q awake) in
-        let at : seat_at after j ≡ seat = get_or-set_at m.seats q j seat no_seat same inside in
-        subst (λ (s : SeatState). s.seen ≤ length after.history) (sym at) (own_low e))
-        (λ ne.
-        let at : seat_at after j ≡ seat_at m j = get_or-set_other m.seats q j seat no_seat ne in
-        let old = sound.seen j in
-        let longer = length-append m.history (listed e) in
-        subst (λ (s : SeatState). s.seen ≤ length after.history) (sym at) (omega arith))
+    seats_seen : HasSeen (length after.history) after.seats
+    seats_seen = seen_set (length after.history) m.seats q seat
+        (λ j. let old = sound.seen j in omega (arith, length-append m.history (listed e))) (own_low e)
       where
         own_low : (o : Option Entry) → (seat_with (seat_at m q) (length m.history) o).seen
             ≤ length (m.history ++ listed o)

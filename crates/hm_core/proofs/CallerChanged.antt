@@ -9,21 +9,18 @@ use Rattle.hm_core.proofs.Moments.{Awakes, seated_awake, map_at}
 map_agree : {A B : Type 0} (f g : A → B) (xs : List A)
     → ((j : ℕ) (a : A) → slice_get xs j ≡ Some a → f a ≡ g a) → map f xs ≡ map g xs
 map_agree f g [] h = refl
-map_agree {A} {B} f g (x ∷ xs) h =
-    ap (λ (b : B). b ∷ map f xs) (h 0 x refl)
-    ∙ ap (λ (l : List B). g x ∷ l) (map_agree f g xs (λ j a e. h (suc j) a e))
+map_agree f g (x ∷ xs) h =
+    let first = h 0 x refl in let rest = map_agree f g xs (λ j a e. h (suc j) a e) in cc
 
 map_set_agree : {A B : Type 0} (f g : A → B) (xs : List A) (q : ℕ) (y : A) (b : B) → f y ≡ b
     → ((j : ℕ) (a : A) → slice_get xs j ≡ Some a → j ≢ q → f a ≡ g a)
     → map f (set xs q y) ≡ set (map g xs) q b
 map_set_agree f g [] q y b e h = refl
-map_set_agree {A} {B} f g (x ∷ xs) zero y b e h =
-    ap (λ (c : B). c ∷ map f xs) e
-    ∙ ap (λ (l : List B). b ∷ l) (map_agree f g xs (λ j a is. h (suc j) a is (λ z. omega arith)))
-map_set_agree {A} {B} f g (x ∷ xs) (suc q) y b e h =
-    ap (λ (c : B). c ∷ map f (set xs q y)) (h 0 x refl (λ z. omega arith))
-    ∙ ap (λ (l : List B). g x ∷ l)
-    (map_set_agree f g xs q y b e (λ j a is ne. h (suc j) a is (λ z. ne (omega arith))))
+map_set_agree f g (x ∷ xs) zero y b e h =
+    let rest = map_agree f g xs (λ j a is. h (suc j) a is (λ z. omega arith)) in cc
+map_set_agree f g (x ∷ xs) (suc q) y b e h =
+    let first = h 0 x refl (λ z. omega arith) in
+    let rest = map_set_agree f g xs q y b e (λ j a is ne. h (suc j) a is (λ z. ne (omega arith))) in cc
 
 abbrev to_of : List HandState → ℕ → ℕ
 to_of hands r = (slice_index_or hands r no_hand).draft.region
@@ -32,10 +29,8 @@ to_of hands r = (slice_index_or hands r no_hand).draft.region
 pub to_same : (hands : List HandState) (q : ℕ) (h : HandState) → q < length hands
     → h.draft.region ≡ to_of hands q → to_of (set hands q h) ≡ to_of hands
 to_same hands q h low same = fun_ext (λ r. dite (ℕ_discrete r q)
-    (λ e. ap (to_of (set hands q h)) e
-    ∙ (ap (λ (z : HandState). z.draft.region) (get_or-set_same hands q h no_hand low)
-    ∙ (same ∙ ap (to_of hands) (sym e))))
-    (λ ne. ap (λ (z : HandState). z.draft.region) (get_or-set_other hands q r h no_hand ne)))
+    (λ e. let there = get_or-set_same hands q h no_hand low in cc)
+    (λ ne. let there = get_or-set_other hands q r h no_hand ne in cc))
 
 module _ (m : Moment) (sound : IsSound m) (q : ℕ)
     (awake : IsAwake (core_of m) q (own_view m q) (own_part m q)) where
@@ -44,8 +39,7 @@ module _ (m : Moment) (sound : IsSound m) (q : ℕ)
 
   pub seen_low : (j : ℕ) (s : SeatState) → slice_get m.seats j ≡ Some s → s.seen ≤ length m.history
   seen_low j s there =
-      subst (λ (z : SeatState). z.seen ≤ length m.history) (get_or_from_slice_get m.seats j s no_seat there)
-      (sound.seen j)
+      let is = get_or_from_slice_get m.seats j s no_seat there in let low = sound.seen j in grind arith
 
   seated : Awakes m q (own_view m q) (own_part m q)
   seated = seated_awake m q (own_view m q) (own_part m q) awake
@@ -75,27 +69,16 @@ module _ (m : Moment) (sound : IsSound m) (q : ℕ)
       (hands : (r : ℕ) → r ≢ q → hand_at n r ≡ hand_at m r) where
     other_part : (r : ℕ) → r ≢ q → own_part n r ≡ own_part m r
     other_part r ne =
-        let calls : calls_of r n.history ≡ calls_of r m.history = ap (calls_of r) history
-        ∙ calls_beside q r m.history (calls_of r m.history) o by (λ z. ne (sym z)) refl in
-        λ i. record {
-          site = site i;
-          number = r;
-          draft = (hands r ne i).draft;
-          hands = (hands r ne i).hands;
-          calls = record { mine = calls i };
-          cycle = record {};
-        }
+        let calls = calls_beside q r m.history (calls_of r m.history) o by (λ z. ne (sym z)) refl in
+        let h = hands r ne in cc
 
     -- the view of another seat is as it was
     pub other_view : (j : ℕ) (s : SeatState) → slice_get m.seats j ≡ Some s → j ≢ q
         → seat_view n s ≡ seat_view m s
     other_view j s there ne =
-        ap (λ (l : List Entry). view (take s.seen l) (map (own_part n) s.parts)) history
-        ∙ (ap (λ (l : List Entry). view l (map (own_part n) s.parts))
-        (take-append-le s.seen m.history (listed o) (seen_low j s there))
-        ∙ ap (λ (l : List (Part AnyUsage)). view (take s.seen m.history) l)
-        (map_agree (own_part n) (own_part m) s.parts (λ k r here.
-        other_part r (λ same. ne (carried j k r s there here same).0))))
+        let seen = take-append-le s.seen m.history (listed o) (seen_low j s there) in
+        let parts = map_agree (own_part n) (own_part m) s.parts (λ k r here.
+        other_part r (λ same. ne (carried j k r s there here same).0)) in cc
 
     module _ (new : Part AnyUsage) (is : own_part n q ≡ new) where
       pub own_parts : map (own_part n) own.parts ≡ slice_set (map (own_part m) own.parts) 0 new
@@ -106,11 +89,8 @@ module _ (m : Moment) (sound : IsSound m) (q : ℕ)
               → map (own_part n) l ≡ slice_set (map (own_part m) l) 0 new
           go [] h each = absurd (cc)
           go (r ∷ rs) h each =
-              let same : r ≡ q = cc in
-              ap (λ (z : Part AnyUsage). z ∷ map (own_part n) rs) (ap (own_part n) same ∙ is)
-              ∙ ap (λ (l : List (Part AnyUsage)). new ∷ l)
-              (map_agree (own_part n) (own_part m) rs (λ k t here.
-              other_part t (λ e. let z = (each (suc k) t here e).1 in absurd (omega arith))))
+              let rest = map_agree (own_part n) (own_part m) rs (λ k t here.
+              other_part t (λ e. let z = (each (suc k) t here e).1 in absurd (omega arith))) in cc
 
       -- all seats, with another one in place of the caller's own that carries the same callers
       pub views_set : (s : SeatState) → s.parts ≡ own.parts
@@ -118,6 +98,4 @@ module _ (m : Moment) (sound : IsSound m) (q : ℕ)
           (view (take s.seen n.history) (slice_set (map (own_part m) own.parts) 0 new))
       views_set s parts = map_set_agree (seat_view n) (seat_view m) m.seats q s
           (view (take s.seen n.history) (slice_set (map (own_part m) own.parts) 0 new))
-          (ap (λ (l : List (Part AnyUsage)). view (take s.seen n.history) l)
-          (ap (map (own_part n)) parts ∙ own_parts))
-          other_view
+          (let own = own_parts in cc) other_view

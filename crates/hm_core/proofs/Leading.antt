@@ -65,28 +65,7 @@ module _ (m : Moment) (sound : IsSound m) (q : ℕ)
   let_held : (o : Option Version) → IfSome o (IsHeld p) → IfSome (let_go_of m o) (Contains p.hands.held)
   let_held None h = tt
   let_held (Some v) (k, c, is) =
-      let at : index_of m.known v.0 ≡ Some k = ap (λ (x : Version). index_of m.known x.0) (sym is)
-      ∙ look_index m sound q awake k (inl c) in
-      subst (λ (z : Option Known). IfSome z (Contains p.hands.held)) (sym at) c
-
-  -- an admitted step that is an act is a lawful move
-  act_may : (step : Step) (a : Act) (o : Option Known) → act_of (index_of m.known) p step.kind ≡ Some a
-      → o ≡ let_go_of m step.let_go → MayHoldMore p step.kind → Fits (core_of m) p step.kind
-      → IfSome step.let_go (IsHeld p)
-      → IsLawfulMove any_store any_entry m.history p record { act = a; let_go = o }
-  act_may step a o is same holds fits held =
-      let t = taken p (core_of m) step.kind a is fits in
-      let both : Some t.0 ≡ Some a = sym t.1 ∙ is in
-      let one : t.0 ≡ a = cc in
-      record {
-        act = take_wider (IsThere (store_of m.history)) (IsThere (store_of m.history)) (λ n h. h) p
-            (λ e. Unit {0})
-            (λ e. Stands (store_of m.history) e → any_entry p.site.usage (store_of m.history) e) (λ e u s. tt)
-            a (subst (MayTake (IsThere (store_of m.history)) (λ e. Unit {0}) p) one t.2);
-        holds = may_hold p (index_of m.known) step.kind a is holds;
-        let_go = subst (λ (z : Option Known). IfSome z (Contains p.hands.held)) (sym same)
-            (let_held step.let_go held);
-      }
+      let at : index_of m.known v.0 ≡ Some k = let there = look_index m sound q awake k (inl c) in cc in rw at c
 
   -- the seat that is met is another one, and there
   meets_other : (o : Other) → MayMeet (core_of m) m.shape.callers q o
@@ -106,14 +85,24 @@ step_meets m sound step o is ok =
     meets_other m sound step.caller first.0 o
     (subst (λ (k : StepKind). HasSeat (core_of m) m.shape.callers step.caller k) is first.1)
 
--- the move of an admitted step
+-- an admitted step that is an act is a lawful move
 pub step_may : (m : Moment) (sound : IsSound m) (step : Step) (a : Act) (o : Option Known)
     → act_of (index_of m.known) (own_part m step.caller) step.kind ≡ Some a → o ≡ let_go_of m step.let_go
     → IsAdmitted m step
     → IsLawfulMove any_store any_entry m.history (own_part m step.caller) record { act = a; let_go = o }
 step_may m sound step a o is same ok =
-    act_may m sound step.caller (ok refused.Caller (omega arith)).0 step a o is same
-    (ok refused.Holds (omega arith)) (ok refused.Change (omega arith)) (ok refused.Held (omega arith)).1
+    let p = own_part m step.caller in
+    let t = taken p (core_of m) step.kind a is (ok refused.Change (omega arith)) in
+    let one : t.0 ≡ a = let there = t.1 in cc in
+    record {
+      act = take_wider (IsThere (store_of m.history)) (IsThere (store_of m.history)) (λ n h. h) p
+          (λ e. Unit {0})
+          (λ e. Stands (store_of m.history) e → any_entry p.site.usage (store_of m.history) e) (λ e u s. tt)
+          a (subst (MayTake (IsThere (store_of m.history)) (λ e. Unit {0}) p) one t.2);
+      holds = may_hold p (index_of m.known) step.kind a is (ok refused.Holds (omega arith));
+      let_go = rw same (let_held m sound step.caller (ok refused.Caller (omega arith)).0 step.let_go
+          (ok refused.Held (omega arith)).1);
+    }
 
 -- a step that is taken leads on
 pub takes_leads : (m : Moment) (sound : IsSound m) (n : Moment) (step : Step) (word : ℕ) → Takes m step word n
@@ -126,10 +115,10 @@ takes_leads m sound n step word h =
 
     go : (k : StepKind) → HasSeat (core_of m) m.shape.callers step.caller k → Becomes m n step word k
         → LeadsAny (core_of m) (core_of n)
-    go Split seat t = subst (LeadsAny (core_of m)) (sym t.now) (split_leads m step.caller (let_go_of m step.let_go) sound awake)
+    go Split seat t = rw t.now (split_leads m step.caller (let_go_of m step.let_go) sound awake)
     go (Meet other) seat t =
         let x = meets_other m sound step.caller awake other seat in
-        subst (LeadsAny (core_of m)) (sym t.now)
+        rw t.now
         (meet_leads m step.caller (let_go_of m step.let_go) sound awake (seat_of m.shape.callers other) x.0 x.1)
     go kind seat t = subst (LeadsAny (core_of m)) (sym t.now)
         (moved (core_of m) step.caller 0 (own_view m step.caller) (own_part m step.caller)

@@ -12,12 +12,9 @@ use Rattle.hm_core.specs.Taking.{core_letting, seat_letting, split_off, joined_t
 use Rattle.hm_core.proofs.Moments.{awake_below, view_at}
 use Rattle.hm_core.proofs.FieldsRead.{hand_read, seat_read, other_read}
 use Rattle.hm_core.proofs.CallerChanged.{other_view, own_parts, to_same, views_set}
-use Rattle.hm_core.proofs.AfterMove.{any_laws}
+use Rattle.hm_core.proofs.AfterMove.{any_laws, HasSeen, seen_set}
 
--- no seat has seen more than so much
-abbrev HasSeen : ℕ → List SeatState → Type 0
-HasSeen top seats = (j : ℕ) → (slice_index_or seats j no_seat).seen ≤ top
-
+-- no seat has seen more, with another one
 seen_push : (top : ℕ) (seats : List SeatState) (n : SeatState) → HasSeen top seats → n.seen ≤ top
     → HasSeen top (seats ++ n ∷ [])
 seen_push top [] n all low zero = low
@@ -25,35 +22,17 @@ seen_push top [] n all low (suc j) = omega arith
 seen_push top (s ∷ ss) n all low zero = all 0
 seen_push top (s ∷ ss) n all low (suc j) = seen_push top ss n (λ i. all (suc i)) low j
 
-seen_set : (top : ℕ) (seats : List SeatState) (i : ℕ) (s : SeatState) → HasSeen top seats → s.seen ≤ top
-    → HasSeen top (set seats i s)
-seen_set top [] i s all low j = all j
-seen_set top (x ∷ xs) zero s all low zero = low
-seen_set top (x ∷ xs) zero s all low (suc j) = all (suc j)
-seen_set top (x ∷ xs) (suc i) s all low zero = all 0
-seen_set top (x ∷ xs) (suc i) s all low (suc j) = seen_set top xs i s (λ k. all (suc k)) low j
-
 -- of two counts the greater, the first where they are the same
 abbrev later : ℕ → ℕ → ℕ
 later a b = if nat_lt a b then b else a
 
 later_low : (top a b : ℕ) → a ≤ top → b ≤ top → later a b ≤ top
-later_low top a b x y = go (nat_lt a b)
-  where
-    go : (t : Bool) → (if t then b else a) ≤ top
-    go true = y
-    go false = x
+later_low top a b x y = elim (nat_lt a b) as (λ t. (if t then b else a) ≤ top) [ true ↦ y | false ↦ x ]
 
 longer_is : (h : List Entry) (a b : ℕ) → a ≤ length h → b ≤ length h
     → take (later a b) h ≡ longer (take a h) (take b h)
 longer_is h a b la lb =
-    let x = length-take-le a h la in
-    let y = length-take-le b h lb in
-    pick (nat_lt a b) ∙ (λ i. if nat_lt (sym x i) (sym y i) then take b h else take a h)
-  where
-    pick : (t : Bool) → take (if t then b else a) h ≡ (if t then take b h else take a h)
-    pick true = refl
-    pick false = refl
+    rw (length-take-le a h la, length-take-le b h lb) (grind arith)
 
 module _ (m : Moment) (q : ℕ) (o : Option Known) where
   -- the plain data after the caller let go
@@ -88,7 +67,7 @@ module _ (m : Moment) (q : ℕ) (o : Option Known) where
     hand_else r ne = get_or-set_other m.hands q r (hand_letting (hand_at m q) o) no_hand ne
 
     part_is : own_part letting_go q ≡ letting (own_part m q) o
-    part_is = λ i. record (own_part m q) { draft = (hand_is i).draft; hands = (hand_is i).hands }
+    part_is = let h = hand_is in cc
 
     view_is : own_view letting_go q ≡ seat_letting m q o
     view_is = ap (λ (l : List (Part AnyUsage)). view (own_view m q).seen l)
@@ -103,13 +82,8 @@ module _ (m : Moment) (q : ℕ) (o : Option Known) where
     core_is =
         let to = to_same m.hands q (hand_letting (hand_at m q) o) below refl in
         let same : set m.seats q (seat_at m q) ≡ m.seats = set-get_or m.seats q no_seat in
-        let views = ap (map (seat_view letting_go)) (sym same)
-        ∙ views_set m sound q awake letting_go None tt refl (sym (append-nil m.history)) hand_else
-        (letting (own_part m q) o) part_is (seat_at m q) refl in
-        λ i. record {
-          heap = record (core_of m).heap { places = record (places_of m) { to = to i } };
-          views = views i;
-        }
+        let views = views_set m sound q awake letting_go None tt refl (sym (append-nil m.history)) hand_else
+        (letting (own_part m q) o) part_is (seat_at m q) refl in cc
 
     -- the state that lets go is led to
     lets_go : Leads any_store any_entry (core_of m) (core_letting m q o)
@@ -134,12 +108,8 @@ module _ (m : Moment) (q : ℕ) (o : Option Known) where
     pub core_noted : core_of noted ≡ split_off m q o
     core_noted =
         let note : SeatState = record { seen = (seat_at m q).seen; parts = [] } in
-        let views : map (seat_view letting_go) (m.seats ++ note ∷ [])
-        ≡ map (seat_view letting_go) m.seats ++ view (own_view m q).seen [] ∷ [] =
-        map-append (seat_view letting_go) m.seats (note ∷ []) in
-        (λ i. record (core_of letting_go) { views = views i })
-        ∙ (λ i. record (core_is i) { views = (core_is i).views ++ view (own_view m q).seen [] ∷ [] })
-        ∙ (λ i. record (core_letting m q o) { views = twice i ++ view (own_view m q).seen [] ∷ [] })
+        let views = map-append (seat_view letting_go) m.seats (note ∷ []) in
+        let c = core_is in let t = twice in cc
       where
         set_same : {A : Type 0} (l : List A) (i : ℕ) (a : A) → get_elem? l i ≡ some a → set l i a ≡ l
         set_same [] i a e = refl
@@ -159,29 +129,18 @@ module _ (m : Moment) (q : ℕ) (o : Option Known) where
         ((own_view letting_go q).parts ++ (own_view letting_go other).parts) =
         λ i. view (longer_is m.history s.seen t.seen (sound.seen q) (sound.seen other) i)
         (map-append (own_part letting_go) s.parts t.parts i) in
-        let views = map-set f (set m.seats q (both other)) other no_seat
-        ∙ ap (λ (l : List (View AnyUsage)). set l other (spent_view {U = AnyUsage}))
-        (map-set f m.seats q (both other)) in
-        (λ i. record (core_of letting_go) { views = views i })
-        ∙ (λ i. record (core_of letting_go) {
-          views = set (set (core_of letting_go).views q (one i)) other spent_view;
-        })
-        ∙ (λ i. record (core_is i) {
-          views = set (set (core_is i).views q
-              (view (longer (view_is i).seen (view_else other ne inside i).seen)
-              ((view_is i).parts ++ (view_else other ne inside i).parts))) other spent_view;
-        })
+        let second = map-set f (set m.seats q (both other)) other no_seat in
+        let first = map-set f m.seats q (both other) in
+        let c = core_is in
+        let v = view_is in
+        let w = view_else other ne inside in cc
 
-    hands_sound : (r : ℕ) → r < m.shape.callers → IsSoundHand letting_go (hand_at letting_go r)
-    hands_sound r small = dite (ℕ_discrete r q)
-        (λ same.
-        let old = sound.hands q low in
-        subst (IsSoundHand letting_go) (sym (ap (hand_at letting_go) same ∙ hand_is))
-        record { region = old.region; room = old.room; own = old.own })
-        (λ ne.
-        let old = sound.hands r small in
-        subst (IsSoundHand letting_go) (sym (hand_else r ne))
-        record { region = old.region; room = old.room; own = old.own })
+    hands_sound : (seats : List SeatState) (r : ℕ) → r < m.shape.callers
+        → IsSoundHand (record letting_go { seats = seats }) (hand_at letting_go r)
+    hands_sound seats r small =
+        let old = sound.hands r small in dite (ℕ_discrete r q)
+        (λ same. rw (same, hand_is) (let old = sound.hands q low in record { region = old.region; room = old.room; own = old.own }))
+        (λ ne. rw (hand_else r ne) record { region = old.region; room = old.room; own = old.own })
 
     -- and are sound with such seats, where the state is good
     sound_seats : (seats : List SeatState) (d : Core AnyUsage)
@@ -196,8 +155,7 @@ module _ (m : Moment) (q : ℕ) (o : Option Known) where
       hands_size = length-set m.hands q (hand_letting (hand_at m q) o) ∙ sound.hands_size;
       seats_size = size;
       numbered = sound.numbered;
-      hands = λ r small. let old = hands_sound r small in
-          record { region = old.region; room = old.room; own = old.own };
+      hands = hands_sound seats;
       seen = seen;
     }
 
@@ -224,42 +182,23 @@ module _ (m : Moment) (q : ℕ) (o : Option Known) where
 module _ (a m : Moment) (same : a ≡ m) (sound : IsSound m) (q : ℕ)
     (awake : IsAwake (core_of m) q (own_view m q) (own_part m q)) (o : Option Known) where
   -- the plain data that the code leaves are those after the split
-  pub noted_is : (h h' : HandState) (s note : SeatState) (seen : ℕ) (seats : List SeatState)
+  pub noted_is : {h h' : HandState} {s note : SeatState} {seen : ℕ} {seats : List SeatState}
       → h ≡ get_or a.hands q h → h' ≡ hand_letting h o → s ≡ get_or a.seats q s → seen ≡ s.seen
       → note ≡ record { seen = seen; parts = [] } → seats ≡ a.seats ++ note ∷ []
       → record a { hands = set a.hands q h'; seats = seats } ≡ noted m q o
-  noted_is h h' s note seen seats eh eh' es ec en more =
+  noted_is {h} {h'} {s} {note} {seen} {seats} eh eh' es ec en more =
       let h_is = hand_read a m same sound q awake h eh in
       let s_is = seat_read a m same sound q awake s es in
-      (λ i. record a { hands = set a.hands q (eh' i); seats = more i })
-      ∙ (λ i. record a { hands = set a.hands q (hand_letting h o); seats = a.seats ++ en i ∷ [] })
-      ∙ (λ i. record a {
-        hands = set a.hands q (hand_letting h o);
-        seats = a.seats ++ record { seen = ec i; parts = [] } ∷ [];
-      })
-      ∙ (λ i. record (same i) {
-        hands = set (same i).hands q (hand_letting (h_is i) o);
-        seats = (same i).seats ++ record { seen = (s_is i).seen; parts = [] } ∷ [];
-      })
+      cc
 
   -- and after the meeting
-  pub met_is : (other : ℕ) (h h' : HandState) (s t u n spent : SeatState) (parts : List ℕ) (seen : ℕ)
+  pub met_is : (other : ℕ) {h h' : HandState} {s t u n spent : SeatState} {parts : List ℕ} {seen : ℕ}
       → other < length m.seats → h ≡ get_or a.hands q h → h' ≡ hand_letting h o → s ≡ get_or a.seats q s
       → t ≡ get_or a.seats other t → u ≡ get_or a.seats other u → seen ≡ t.seen → parts ≡ u.parts
       → n ≡ record { seen = later s.seen seen; parts = s.parts ++ parts } → spent ≡ no_seat
       → record a { hands = set a.hands q h'; seats = set (set a.seats q n) other spent } ≡ met_with m q o other
-  met_is other h h' s t u n spent parts seen inside eh eh' es et eu ec ep en ez =
+  met_is other {h} {h'} {s} {t} {u} {n} {spent} {parts} {seen} inside eh eh' es et eu ec ep en ez =
       let h_is = hand_read a m same sound q awake h eh in
       let s_is = seat_read a m same sound q awake s es in
-      let seen_is : seen ≡ (seat_at m other).seen = ec
-      ∙ ap (λ (z : SeatState). z.seen) (other_read a m same sound q awake other t inside et) in
-      let parts_is : parts ≡ (seat_at m other).parts = ep
-      ∙ ap (λ (z : SeatState). z.parts) (other_read a m same sound q awake other u inside eu) in
-      (λ i. record a { hands = set a.hands q (eh' i); seats = set (set a.seats q (en i)) other (ez i) })
-      ∙ (λ i. record (same i) {
-        hands = set (same i).hands q (hand_letting (h_is i) o);
-        seats = set (set (same i).seats q record {
-          seen = later (s_is i).seen (seen_is i);
-          parts = (s_is i).parts ++ parts_is i;
-        }) other no_seat;
-      })
+      let t_is = other_read a m same sound q awake other t inside et in
+      let u_is = other_read a m same sound q awake other u inside eu in cc

@@ -2,7 +2,7 @@
 use Rattle.std.proofs.Common.{◌≡◌, ◌<◌, ℕ, zero, suc, List, [], ◌∷◌, map, Option, Some, None, IfSome, refl, sym, ap, ◌∙◌, subst, arith, ◌⊎◌, ◌↔◌, IsNone, inl, inr, ⊎_elim, ◌≤◌}
 use Rattle.std.specs.Prelude.{slice_get}
 use native.Mathlib.Decide.{dec_le}
-use Rattle.hm_core.proofs.Words.{slice_get_past, slice_get-get_or, get_or_from_slice_get, some, some-injective, get_elem?, AnyUsage, Known, Part, View, IsPublished, PartIsGood, Version, made_count, store_of, MayLookInto, next_name, IsAwake, IsLookable, SeatState, Moment, core_of, index_of, own_part, own_view, places_of, seat_view, site_of, IsSound}
+use Rattle.hm_core.proofs.Words.{no_seat, slice_get_past, slice_get-get_or, get_or_from_slice_get, some, some-injective, get_elem?, AnyUsage, Known, Part, View, IsPublished, PartIsGood, Version, made_count, store_of, MayLookInto, next_name, IsAwake, IsLookable, SeatState, Moment, core_of, index_of, own_part, own_view, places_of, seat_view, site_of, IsSound, dite}
 use mathlib.Core.Option.{some-ne-none}
 use Rattle.hm_shape.specs.Words.{word_count}
 use Rattle.hm_moves.specs.Places.{IsFit}
@@ -35,9 +35,7 @@ pub record IsSeated (m : Moment) (q : ℕ) (s : SeatState) : Type 0 where
 
 module _ (m : Moment) where
   pub own_seat : (q : ℕ) (s : SeatState) → slice_get m.seats q ≡ Some s → seat_view m s ≡ own_view m q
-  own_seat q s e =
-      let no : SeatState = record { seen = 0; parts = [] } in
-      ap (seat_view m) (sym (get_or_from_slice_get m.seats q s no e))
+  own_seat q s e = ap (seat_view m) (sym (get_or_from_slice_get m.seats q s no_seat e))
 
   pub view_at : (q : ℕ) (s : SeatState) → slice_get m.seats q ≡ Some s
       → get_elem? (core_of m).views q ≡ some (own_view m q)
@@ -94,8 +92,7 @@ module _ (m : Moment) where
 
     -- a version that is known at a number is published
     pub known_published : (v : ℕ) (k : Known) → index_of m.known v ≡ Some k → IsPublished (index_of m.known) k
-    known_published v k e =
-        subst (λ (n : ℕ). index_of m.known n ≡ Some k) (sym (sound.numbered v k e)) e
+    known_published v k e = let at = sound.numbered v k e in cc
 
     -- and fits
     pub known_fit : (v : ℕ) (k : Known) → index_of m.known v ≡ Some k → IsFit m.shape 0 k
@@ -133,20 +130,11 @@ module _ (m : Moment) where
 pub word_past : (m : Moment) → IsSound m → (i : ℕ) (o : Option ℕ) → o ≡ slice_get m.words i
     → IsNone o ↔ (word_count m.shape ≤ i)
 word_past m sound i o is = (
-  λ none. ⊎_elim (λ (h : word_count m.shape ≤ i). h) (λ (h : i < word_count m.shape). absurd (within h none))
-      (le_or_lt (word_count m.shape) i),
+  λ none. dite (dec_le (word_count m.shape) i) (λ past. past) (λ low. absurd (within (omega arith) none)),
   λ past. subst (λ (z : Option ℕ). IsNone z) (sym (is ∙ slice_get_past m.words i (let wide = sound.good.heap.wide in omega arith))) refl,
 )
   where
-    le_or_lt : (a b : ℕ) → (a ≤ b) ⊎ (b < a)
-    le_or_lt a b = go (dec_le a b)
-      where
-        go : Dec (a ≤ b) → (a ≤ b) ⊎ (b < a)
-        go (yes d) = inl d
-        go (no d) = inr (omega arith)
-
     within : i < word_count m.shape → IsNone o → ⊥
     within low none =
         let wide = sound.good.heap.wide in
-        let there = is ∙ slice_get-get_or m.words i 0 (omega arith) in
-        subst (λ (z : Option ℕ). IsNone z → ⊥) (sym there) (λ n. cc) none
+        let there = slice_get-get_or m.words i 0 (omega arith) in cc

@@ -40,35 +40,29 @@ module _ {U : Type 0} (known : Name → Type 0) (p : Part U) (k : Known) where
   reads_name : (e : Entry) → Reads known p k e → name_of e ≡ k.name
   reads_name (Fetch q n answer) h = h.0.object
   reads_name (StoreIf q n stamp refs numbers (Changed now)) h = h.0.object
-  reads_name (StoreIf q n stamp refs numbers Stored) h = absurd h
   reads_name e h = absurd h
 
   turns_name : (x : Contents) (e : Entry) → Turns known p k x e → name_of e ≡ k.name
   turns_name x (Store q n field) h = h.0.object
   turns_name x (StoreIf q n stamp refs numbers Stored) h = h.0.object
-  turns_name x (StoreIf q n stamp refs numbers (Changed now)) h = absurd h
   turns_name x e h = absurd h
 
 module _ {U : Type 0} (ix : Index) (p : Part U) where
   -- what may be found or published may be held
   room_left : (a : Act) (x : ℕ) → MayHold p a
       → IfSome (finds ix a x) (λ k. HasHand p) × IfSome (publishes a x) (λ k. HasHand p)
-  room_left (Looks (LoadStamp at)) x h = (tt, tt)
   room_left (Looks (LoadReference at i)) x h = (certain (HasHand p) (lookup ix x) h, tt)
-  room_left (Looks (LoadNumber at i)) x h = (tt, tt)
   room_left (Looks (LoadLink at want)) x h = (certain (HasHand p) (lookup ix x) h, tt)
-  room_left (Builds (StoreOwn i word)) x h = (tt, tt)
   room_left (Builds (Publish fresh)) x h = (tt, h)
   room_left (Builds (LinkStore at fresh entry)) x h =
       (certain (HasHand p) (lookup ix x) h, certain (HasHand p) (where_zero (Some fresh) x) h)
+  room_left a x h = (tt, tt)
 
   -- an act that finds a version publishes none
   one_at_most : (a : Act) (x : ℕ) → IfSome (finds ix a x) (λ k. publishes a x ≡ None)
   one_at_most (Looks l) x = certain (None ≡ None) (finds ix (Looks l) x) refl
-  one_at_most (Builds (StoreOwn i word)) x = tt
-  one_at_most (Builds (Publish fresh)) x = tt
-  one_at_most (Builds (LinkStore at fresh entry)) zero = tt
   one_at_most (Builds (LinkStore at fresh entry)) (suc v) = certain (None ≡ None) (ix v) refl
+  one_at_most a x = tt
 
 module _ (m : Moment) (sound : IsSound m) (q : ℕ)
     (awake : IsAwake (core_of m) q (own_view m q) (own_part m q)) (mv : Move)
@@ -106,23 +100,13 @@ module _ (m : Moment) (sound : IsSound m) (q : ℕ)
       → IfSome (entry_of q a y) (λ e. HasNextStamp (store_of m.history) e (2 ^ 64))
   stamp_fits (Looks (LoadLink at (Some e))) h zero is stands =
       present_stamp e at (reads_name _ (own_part m q) at e h.reads) h.look is
-  stamp_fits (Looks (LoadLink at (Some e))) h (suc n) is stands = tt
-  stamp_fits (Looks (LoadLink at None)) h zero is stands = tt
-  stamp_fits (Looks (LoadLink at None)) h (suc n) is stands = tt
-  stamp_fits (Looks (LoadStamp at)) h zero is stands = tt
-  stamp_fits (Looks (LoadStamp at)) h (suc n) is stands = tt
-  stamp_fits (Looks (LoadReference at i)) h zero is stands = tt
-  stamp_fits (Looks (LoadReference at i)) h (suc n) is stands = tt
-  stamp_fits (Looks (LoadNumber at i)) h zero is stands = tt
-  stamp_fits (Looks (LoadNumber at i)) h (suc n) is stands = tt
-  stamp_fits (Builds (StoreOwn i word)) h y is stands = tt
   stamp_fits (Builds (Publish k)) h y is stands =
       none_has (λ (c : Contents). c.stamp + 1 < 2 ^ 64) (contents_of (store_of m.history) k.name) stands.fresh
   stamp_fits (Builds (LinkStore at k (Some e))) h zero is stands =
       present_stamp e at (turns_name _ (own_part m q) at k.contents e h.turns) h.look is
+  stamp_fits (Looks (LoadLink at (Some e))) h (suc n) is stands = tt
   stamp_fits (Builds (LinkStore at k (Some e))) h (suc n) is stands = tt
-  stamp_fits (Builds (LinkStore at k None)) h zero is stands = tt
-  stamp_fits (Builds (LinkStore at k None)) h (suc n) is stands = tt
+  stamp_fits a h y is stands = tt
 
   -- and its object's stamp can be raised
   pub entry_stamp : IfSome (entry_of q mv.act x) (λ e. HasNextStamp (store_of m.history) e (2 ^ 64))
@@ -137,10 +121,8 @@ module _ (m : Moment) (sound : IsSound m) (q : ℕ)
   own_word : (a : Act) → MayTake (IsThere (store_of m.history))
       (λ e. Stands (store_of m.history) e → any_entry record {} (store_of m.history) e) (own_part m q) a
       → IsOwnWord a
-  own_word (Looks l) h = tt
   own_word (Builds (StoreOwn i word)) h = h.below
-  own_word (Builds (Publish k)) h = tt
-  own_word (Builds (LinkStore at k e)) h = tt
+  own_word a h = tt
 
   -- the caller's hand can follow the move
   pub can_follow : CanFollow (hand_at m q) mv x (finds (index_of m.known) mv.act x)
@@ -164,12 +146,9 @@ module _ (m : Moment) (sound : IsSound m) (q : ℕ)
 pub row_small : (m : Moment) (sound : IsSound m) (row : ℕ)
     → ((row_at m.rows row).used + 1 < 2 ^ 32) × ((row_at m.rows row).made + 1 < 2 ^ 64)
 row_small m sound row =
-    let heap = sound.good.heap in
-    let filled = heap.placed.filled row in
-    let made = heap.ranked.made row in
-    let freed = heap.ranked.freed row in
-    let none : m.shape.versions * (row_at m.rows row).freed ≤ m.shape.versions * 0 =
-    mul-le-mul_left m.shape.versions freed in
+    let filled = sound.good.heap.placed.filled row in
+    let made = sound.good.heap.ranked.made row in
+    let none = mul-le-mul_left m.shape.versions (sound.good.heap.ranked.freed row) in
     let few = m.shape.versions_fit in (omega arith, omega arith)
 
 -- a word was read by the code that takes a lawful move: this one, where the moment has it
@@ -181,6 +160,20 @@ pub record HasRead (a m : Moment) (q : ℕ) (mv : Move) (at y : ℕ) : Type 0 wh
   pub word : at ≡ word_of (own_part m q) mv.act
   pub low : at < length m.words
   pub got : y ≡ get_or a.words at y
+
+pub reading : {a m : Moment} {q : ℕ} {mv : Move} {at y : ℕ} → a ≡ m → IsSound a
+    → IsAwake (core_of m) q (own_view m q) (own_part m q)
+    → IsLawfulMove any_store any_entry m.history (own_part m q) mv → at ≡ word_of (own_part m q) mv.act
+    → at < length m.words → y ≡ get_or a.words at y → HasRead a m q mv at y
+reading is sound awake may word low got = record {
+  same = is;
+  sound = subst IsSound is sound;
+  awake = awake;
+  may = may;
+  word = word;
+  low = low;
+  got = got;
+}
 
 module _ {a m : Moment} {q : ℕ} {mv : Move} {at y : ℕ} (read : HasRead a m q mv at y) where
   abbrev w : ℕ
@@ -195,48 +188,37 @@ module _ {a m : Moment} {q : ℕ} {mv : Move} {at y : ℕ} (read : HasRead a m q
   -- what the entry needs
   pub stands_now : (o : Option Entry) → o ≡ entry_of q mv.act y → IfSome o (Stands (store_of a.history))
   stands_now o is =
-      let path : (o, a.history) ≡ (entry_of q mv.act w, m.history) =
-      λ i. ((is ∙ ap (entry_of q mv.act) word_found) i, (read.same i).history) in
-      subst (λ (t : Option Entry × List Entry). IfSome t.0 (Stands (store_of t.1))) (sym path)
+      rw (is ∙ ap (entry_of q mv.act) word_found, ap (λ (z : Moment). z.history) read.same)
       (entry_stands m read.sound q read.awake mv read.may)
 
   pub stamp_now : (o : Option Entry) → o ≡ entry_of q mv.act y
       → IfSome o (λ e. HasNextStamp (store_of a.history) e (2 ^ 64))
   stamp_now o is =
-      let path : (o, a.history) ≡ (entry_of q mv.act w, m.history) =
-      λ i. ((is ∙ ap (entry_of q mv.act) word_found) i, (read.same i).history) in
-      subst (λ (t : Option Entry × List Entry). IfSome t.0 (λ e. HasNextStamp (store_of t.1) e (2 ^ 64)))
-      (sym path) (entry_stamp m read.sound q read.awake mv read.may)
+      rw (is ∙ ap (entry_of q mv.act) word_found, ap (λ (z : Moment). z.history) read.same)
+      (entry_stamp m read.sound q read.awake mv read.may)
 
   pub caller_now : (o : Option Entry) (makers : ℕ) → o ≡ entry_of q mv.act y → makers ≡ a.shape.callers
       → IfSome o (λ e. caller_of e < makers)
   caller_now o makers is count =
-      let path : (o, makers) ≡ (entry_of q mv.act w, m.shape.callers) =
-      λ i. ((is ∙ ap (entry_of q mv.act) word_found) i, (count ∙ ap (λ (z : Moment). z.shape.callers) read.same) i)
-      in
-      subst (λ (t : Option Entry × ℕ). IfSome t.0 (λ e. caller_of e < t.1)) (sym path)
+      rw (is ∙ ap (entry_of q mv.act) word_found, count ∙ ap (λ (z : Moment). z.shape.callers) read.same)
       (entry_below m read.sound q read.awake mv read.may)
 
   -- and the hand
   pub follow_now : (h : HandState) (f : Option Known) → h ≡ get_or a.hands q h
       → f ≡ finds (index_of m.known) mv.act y → CanFollow h mv y f
   follow_now h f got is =
-      let path : (h, y, f) ≡ (hand_at m q, w, finds (index_of m.known) mv.act w) =
-      λ i. (hand_read a m read.same read.sound q read.awake h got i, word_found i, (is ∙ ap (finds (index_of m.known) mv.act) word_found) i) in
-      subst (λ (t : HandState × ℕ × Option Known). CanFollow t.0 mv t.1 t.2) (sym path)
+      rw (is, word_found, hand_read a m read.same read.sound q read.awake h got)
       (can_follow m read.sound q read.awake mv read.may)
 
   -- and the index
   pub below_now : (n : Option Known) → n ≡ publishes mv.act y → IfSome n (λ k. k.version.0 < length a.known)
   below_now n is =
-      let path : (n, a.known) ≡ (publishes mv.act w, m.known) =
-      λ i. ((is ∙ ap (publishes mv.act) word_found) i, (read.same i).known) in
-      subst (λ (t : Option Known × List (Option Known)). IfSome t.0 (λ k. k.version.0 < length t.1)) (sym path)
+      rw (is ∙ ap (publishes mv.act) word_found, ap (λ (z : Moment). z.known) read.same)
       (fresh_below m q mv read.sound read.awake read.may)
 
   -- the plain data that the code leaves are those after the move
-  pub after_is : (b row : ℕ) (known : List (Option Known)) (es : List Entry) (r r' : Row) (h h' : HandState)
-      (s s' : SeatState) (o : Option Entry) (f n : Option Known)
+  pub after_is : {b row : ℕ} {known : List (Option Known)} {es : List Entry} {r r' : Row} {h h' : HandState}
+      {s s' : SeatState} {o : Option Entry} {f n : Option Known}
       → b ≡ becomes mv.act y → row ≡ row_of_part (own_part m q) → row < length m.rows
       → known ≡ known_with a.known n → es ≡ a.history ++ listed o
       → r ≡ get_or a.rows row r → r' ≡ row_with r n
@@ -251,29 +233,10 @@ module _ {a m : Moment} {q : ℕ} {mv : Move} {at y : ℕ} (read : HasRead a m q
         hands = set a.hands q h';
         seats = set a.seats q s';
       } ≡ after m q mv
-  after_is b row known es r r' h h' s s' o f n eb erow lrow ek ees er er' eh eh' es' es'' eo ef en =
+  after_is {b} {row} {known} {es} {r} {r'} {h} {h'} {s} {s'} {o} {f} {n} eb erow lrow ek ees er er' eh eh' es' es'' eo ef en =
       let x_is = word_found in
-      let o_is : o ≡ entry_of q mv.act w = eo ∙ ap (entry_of q mv.act) x_is in
-      let f_is : f ≡ finds (index_of m.known) mv.act w = ef ∙ ap (finds (index_of m.known) mv.act) x_is in
-      let n_is : n ≡ publishes mv.act w = en ∙ ap (publishes mv.act) x_is in
-      let b_is : b ≡ becomes mv.act w = eb ∙ ap (becomes mv.act) x_is in
-      let r_is : r ≡ row_at m.rows (row_of_part (own_part m q)) = row_read a m read.same read.sound q read.awake row r lrow er
-      ∙ ap (row_at m.rows) erow in
-      let h_is : h ≡ hand_at m q = hand_read a m read.same read.sound q read.awake h eh in
-      let s_is : s ≡ seat_at m q = seat_read a m read.same read.sound q read.awake s es' in
-      (λ i. record a {
-        words = set a.words at b;
-        known = ek i;
-        rows = set a.rows row (er' i);
-        history = ees i;
-        hands = set a.hands q (eh' i);
-        seats = set a.seats q (es'' i);
-      })
-      ∙ (λ i. record (read.same i) {
-        words = set (read.same i).words (read.word i) (b_is i);
-        known = known_with (read.same i).known (n_is i);
-        rows = set (read.same i).rows (erow i) (row_with (r_is i) (n_is i));
-        history = (read.same i).history ++ listed (o_is i);
-        hands = set (read.same i).hands q (hand_after (h_is i) mv (x_is i) (f_is i));
-        seats = set (read.same i).seats q (seat_with (s_is i) (length (read.same i).history) (o_is i));
-      })
+      let r_is = row_read a m read.same read.sound q read.awake row r lrow er in
+      let h_is = hand_read a m read.same read.sound q read.awake h eh in
+      let s_is = seat_read a m read.same read.sound q read.awake s es' in
+      let same = read.same in
+      let word = read.word in cc

@@ -16,11 +16,9 @@ invariant_of-self-2 c =
     let m = c.args.self.now in
     let sound : IsSound m = subst IsSound c.self.view_is c.self.invariant.sound in
     let is = met_is _ m c.self.view_is sound c.args.caller c.requires.awake c.args.let_go c.args.other
-    c.index_mut-3.result.now c.release.new.self c.index_mut.result.now c.index-2.result.now c.index.result.now
-    c.carry.new.self c.spend.new.self c.as_slice.result.now c.seen-seen.result c.requires.there
-    c.index_mut-3.ensures.value c.release.ensures c.index_mut.ensures.value c.index-2.ensures c.index.ensures
-    c.seen-seen.ensures (c.as_slice.ensures.value ∙ c.in_ok-parts.ensures) c.in_ok-carry.ensures.carried
-    c.spend.ensures in
+    c.requires.there c.index_mut-3.ensures.value c.release.ensures c.index_mut.ensures.value c.index-2.ensures
+    c.index.ensures c.seen-seen.ensures (c.as_slice.ensures.value ∙ c.in_ok-parts.ensures)
+    c.in_ok-carry.ensures.carried c.spend.ensures in
     record {
       sound = subst IsSound (sym is) (sound_met m c.args.caller c.args.let_go sound c.requires.awake c.args.other
           c.requires.other c.requires.there);
@@ -32,11 +30,9 @@ returns-clause-joined c =
     let m = c.args.self.now in
     let sound : IsSound m = subst IsSound c.self.view_is c.self.invariant.sound in
     let is = met_is _ m c.self.view_is sound c.args.caller c.requires.awake c.args.let_go c.args.other
-    c.index_mut-3.result.now c.release.new.self c.index_mut.result.now c.index-2.result.now c.index.result.now
-    c.carry.new.self c.spend.new.self c.as_slice.result.now c.seen-seen.result c.requires.there
-    c.index_mut-3.ensures.value c.release.ensures c.index_mut.ensures.value c.index-2.ensures c.index.ensures
-    c.seen-seen.ensures (c.as_slice.ensures.value ∙ c.in_ok-parts.ensures) c.in_ok-carry.ensures.carried
-    c.spend.ensures in
+    c.requires.there c.index_mut-3.ensures.value c.release.ensures c.index_mut.ensures.value c.index-2.ensures
+    c.index.ensures c.seen-seen.ensures (c.as_slice.ensures.value ∙ c.in_ok-parts.ensures)
+    c.in_ok-carry.ensures.carried c.spend.ensures in
     ap core_of is
     ∙ core_met m c.args.caller c.args.let_go sound c.requires.awake c.args.other c.requires.other
     c.requires.there

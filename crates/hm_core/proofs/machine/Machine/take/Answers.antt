@@ -3,7 +3,7 @@ use Rattle.std.proofs.Common.{◌<◌, ◌+◌, ◌^◌, sym, ap, ◌∙◌, sub
 use Rattle.hm_core.proofs.Words.{Row, ChronicleState, core_of, IsSound}
 use Rattle.hm_core.proofs.Moments.{awake_below}
 use Rattle.hm_core.proofs.AfterMove.{core_after, sound_after}
-use Rattle.hm_core.proofs.MoveNeeds.{HasRead, stands_now, stamp_now, caller_now, follow_now, below_now, row_small, after_is}
+use Rattle.hm_core.proofs.MoveNeeds.{reading, stands_now, stamp_now, caller_now, follow_now, below_now, row_small, after_is}
 use Rattle.hm_core.proofs.FieldsRead.{row_read}
 use Rattle.hm_core.proofs.machine.Machine.take.Goals as goal
 
@@ -15,15 +15,8 @@ word_of-at-requires-clause-caller c =
 pub enter-requires : goal.enter-requires
 enter-requires c =
     let m = c.args.self.now in
-    let read : HasRead _ m c.args.caller c.args.m.now c.word_of-at.result c.index-x.result.now = record {
-      same = c.self.view_is;
-      sound = subst IsSound c.self.view_is c.self.invariant.sound;
-      awake = c.requires.awake;
-      may = c.requires.may;
-      word = c.word_of-at.ensures.value;
-      low = c.word_of-at.ensures.below;
-      got = c.index-x.ensures;
-    } in
+    let read = reading c.self.view_is c.self.invariant.sound c.requires.awake c.requires.may
+    c.word_of-at.ensures.value c.word_of-at.ensures.below c.index-x.ensures in
     record {
       stands = stands_now read c.entry.result c.entry.ensures;
       caller = caller_now read c.entry.result _ c.entry.ensures c.self.invariant.makers;
@@ -33,30 +26,16 @@ enter-requires c =
 pub follow-requires : goal.follow-requires
 follow-requires c =
     let m = c.args.self.now in
-    let read : HasRead _ m c.args.caller c.args.m.now c.word_of-at.result c.index-x.result.now = record {
-      same = c.self.view_is;
-      sound = subst IsSound c.self.view_is c.self.invariant.sound;
-      awake = c.requires.awake;
-      may = c.requires.may;
-      word = c.word_of-at.ensures.value;
-      low = c.word_of-at.ensures.below;
-      got = c.index-x.ensures;
-    } in
+    let read = reading c.self.view_is c.self.invariant.sound c.requires.awake c.requires.may
+    c.word_of-at.ensures.value c.word_of-at.ensures.below c.index-x.ensures in
     follow_now read c.index_mut-2.result.now c.finds-found.result c.index_mut-2.ensures.value
     c.finds-found.ensures
 
 pub publish-requires : goal.publish-requires
 publish-requires c =
     let m = c.args.self.now in
-    let read : HasRead _ m c.args.caller c.args.m.now c.word_of-at.result c.index-x.result.now = record {
-      same = c.self.view_is;
-      sound = subst IsSound c.self.view_is c.self.invariant.sound;
-      awake = c.requires.awake;
-      may = c.requires.may;
-      word = c.word_of-at.ensures.value;
-      low = c.word_of-at.ensures.below;
-      got = c.index-x.ensures;
-    } in
+    let read = reading c.self.view_is c.self.invariant.sound c.requires.awake c.requires.may
+    c.word_of-at.ensures.value c.word_of-at.ensures.below c.index-x.ensures in
     let row = row_read _ m read.same read.sound c.args.caller read.awake c.row_of-row.result
     c.index_mut-3.result.now c.row_of-row.ensures.below c.index_mut-3.ensures.value in
     let small = row_small m read.sound c.row_of-row.result in
@@ -69,17 +48,9 @@ publish-requires c =
 pub invariant_of-self-2 : goal.invariant_of-self-2
 invariant_of-self-2 c =
     let m = c.args.self.now in
-    let read : HasRead _ m c.args.caller c.args.m.now c.word_of-at.result c.index-x.result.now = record {
-      same = c.self.view_is;
-      sound = subst IsSound c.self.view_is c.self.invariant.sound;
-      awake = c.requires.awake;
-      may = c.requires.may;
-      word = c.word_of-at.ensures.value;
-      low = c.word_of-at.ensures.below;
-      got = c.index-x.ensures;
-    } in
-    let is = after_is read c.becomes.result c.row_of-row.result _ _ _ _ _ _ _ _ _ _ _ c.becomes.ensures
-    c.row_of-row.ensures.row c.row_of-row.ensures.below c.publish.ensures.known
+    let read = reading c.self.view_is c.self.invariant.sound c.requires.awake c.requires.may
+    c.word_of-at.ensures.value c.word_of-at.ensures.below c.index-x.ensures in
+    let is = after_is read c.becomes.ensures c.row_of-row.ensures.row c.row_of-row.ensures.below c.publish.ensures.known
     (ap (λ (z : ChronicleState). z.entries) c.in_ok-enter.ensures.entries) c.index_mut-3.ensures.value
     c.publish.ensures.row c.index_mut-2.ensures.value c.follow.ensures c.index_mut-seat.ensures.value
     c.in_ok-enter.ensures.seen c.entry.ensures c.finds-found.ensures c.publishes-fresh.ensures in
@@ -91,17 +62,9 @@ invariant_of-self-2 c =
 pub returns-clause-taken : goal.returns-clause-taken
 returns-clause-taken c =
     let m = c.args.self.now in
-    let read : HasRead _ m c.args.caller c.args.m.now c.word_of-at.result c.index-x.result.now = record {
-      same = c.self.view_is;
-      sound = subst IsSound c.self.view_is c.self.invariant.sound;
-      awake = c.requires.awake;
-      may = c.requires.may;
-      word = c.word_of-at.ensures.value;
-      low = c.word_of-at.ensures.below;
-      got = c.index-x.ensures;
-    } in
-    let is = after_is read c.becomes.result c.row_of-row.result _ _ _ _ _ _ _ _ _ _ _ c.becomes.ensures
-    c.row_of-row.ensures.row c.row_of-row.ensures.below c.publish.ensures.known
+    let read = reading c.self.view_is c.self.invariant.sound c.requires.awake c.requires.may
+    c.word_of-at.ensures.value c.word_of-at.ensures.below c.index-x.ensures in
+    let is = after_is read c.becomes.ensures c.row_of-row.ensures.row c.row_of-row.ensures.below c.publish.ensures.known
     (ap (λ (z : ChronicleState). z.entries) c.in_ok-enter.ensures.entries) c.index_mut-3.ensures.value
     c.publish.ensures.row c.index_mut-2.ensures.value c.follow.ensures c.index_mut-seat.ensures.value
     c.in_ok-enter.ensures.seen c.entry.ensures c.finds-found.ensures c.publishes-fresh.ensures in
