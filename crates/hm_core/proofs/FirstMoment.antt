@@ -35,9 +35,8 @@ seats_long seen (suc n) =
     let b = seats_long seen n in omega arith
 
 -- the seat at a place is that caller's
-seat_of : {B : Type 0} (f : SeatState → B) (seen n j : ℕ) (v : B) → get_elem? (map f (first_seats seen n)) j
-    ≡ some v
-    → (j < n) × (f (record { seen = seen; parts = j ∷ [] }) ≡ v)
+seat_of : {B : Type 0} (f : SeatState → B) (seen n j : ℕ) (v : B)
+    → get_elem? (map f (first_seats seen n)) j ≡ some v → (j < n) × (f (record { seen = seen; parts = j ∷ [] }) ≡ v)
 seat_of f seen zero j v e = absurd (let low = at_below (map f (first_seats seen zero)) j v e in omega arith)
 seat_of f seen (suc n) j v e =
     let last : SeatState = record { seen = seen; parts = n ∷ [] } in
@@ -160,16 +159,12 @@ module _ (s : Shape) (start : Start) (words : List ℕ) (first : AreFirst s star
       is ∙ rw (ne_eqb (suc q) 0 (λ z. omega arith)) refl
 
   -- a view is of one caller, with its fresh part
-  record IsOwn (j k : ℕ) (v : View AnyUsage) (p : Part AnyUsage) : Type 0 where
-    low : j < s.callers
-    place : k ≡ 0
-    is : own_part m j ≡ p
-
-  own : (j k : ℕ) (v : View AnyUsage) (p : Part AnyUsage) → Carries (core_of m).views j k v p → IsOwn j k v p
+  own : (j k : ℕ) (v : View AnyUsage) (p : Part AnyUsage) → Carries (core_of m).views j k v p
+      → (j < s.callers) × (k ≡ 0) × (own_part m j ≡ p)
   own j k v p at =
       let a = seat_of (seat_view m) (length (opening_of start)) s.callers j v at.seat in
       let b = one_at (own_part m j) p k (ap (λ (w : View AnyUsage). get_elem? w.parts k) a.1 ∙ at.place) in
-      record { low = a.0; place = b.0; is = b.1 }
+      (a.0, b.0, b.1)
 
   pub first_fresh : IsFreshCore (site_of m) (core_of m)
   first_fresh = record {
@@ -179,13 +174,13 @@ module _ (s : Shape) (start : Start) (words : List ℕ) (first : AreFirst s star
         ∙ take_all (length (opening_of start)) (opening_of start) (omega arith);
     parts = λ j k v p at.
         let o = own j k v p at in
-        let number : j ≡ p.number = ap (λ (q : Part AnyUsage). q.number) o.is in
-        (grind arith, sym o.is ∙ (part_is j o.low ∙ ap (fresh_part (site_of m)) number));
+        let number : j ≡ p.number = ap (λ (q : Part AnyUsage). q.number) o.2 in
+        (let low = o.0 in omega arith, sym o.2 ∙ (part_is j o.0 ∙ ap (fresh_part (site_of m)) number));
     apart = λ j k i n v w p q a b same.
         let x = own j k v p a in
         let y = own i n w q b in
-        let one : j ≡ p.number = ap (λ (z : Part AnyUsage). z.number) x.is in
-        let two : i ≡ q.number = ap (λ (z : Part AnyUsage). z.number) y.is in (grind arith, grind arith);
+        let one : j ≡ p.number = ap (λ (z : Part AnyUsage). z.number) x.2 in
+        let two : i ≡ q.number = ap (λ (z : Part AnyUsage). z.number) y.2 in (grind arith, x.1 ∙ sym y.1);
   }
 
   hands_sound : (q : ℕ) → q < s.callers → IsSoundHand m (hand_at m q)
