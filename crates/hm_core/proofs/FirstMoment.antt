@@ -139,8 +139,7 @@ module _ (s : Shape) (start : Start) (words : List ℕ) (first : AreFirst s star
         (sym (fun_ext (first_to s (common_known start) (all_known start)))) first.head;
     history = refl;
     contents = subst (AreTrue s words) (sym index_is) first.contents;
-    links = subst (λ (x : Index). (k : Known) → IsPublished x k → link_of s words k ≡ 0) (sym index_is)
-        first.links;
+    links = subst (λ (x : Index). (k : Known) → IsPublished x k → link_of s words k ≡ 0) (sym index_is) first.links;
   }
 
   hand_own : (q : ℕ) → suc q < s.callers → hand_at m (suc q) ≡ fresh_hand s.versions (common_known start) []
@@ -197,8 +196,7 @@ module _ (s : Shape) (start : Start) (words : List ℕ) (first : AreFirst s star
         let b = length-map (all_known start) (λ (k : Known). Some k) in
         let c = length-replicate {A = Option Known} (version_count s - length (all_known start)) None in
         let d = few in omega arith;
-    rows_size = length-set (replicate {A = Row} (row_count s) no_row) 0 full
-        ∙ length-replicate (row_count s) no_row;
+    rows_size = length-set (replicate {A = Row} (row_count s) no_row) 0 full ∙ length-replicate (row_count s) no_row;
     hands_size =
         let some = s.callers_fit in
         let long = length-replicate (s.callers - 1) (fresh_hand s.versions (common_known start) []) in omega arith;
