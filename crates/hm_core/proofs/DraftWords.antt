@@ -15,8 +15,7 @@ unnamed_at : (k : Known) (i : ℕ) (l : List (Option ℕ)) (j : ℕ)
     → get_or (unnamed_from k i l) j None ≡ unless_named k (i + j) (get_or l j None)
 unnamed_at k i [] j = refl
 unnamed_at k i (x ∷ xs) zero = let at : i ≡ i + 0 = omega arith in ap (λ (n : ℕ). unless_named k n x) at
-unnamed_at k i (x ∷ xs) (suc j) =
-    let at : (i + 1) + j ≡ i + suc j = omega arith in
+unnamed_at k i (x ∷ xs) (suc j) = let at : (i + 1) + j ≡ i + suc j = omega arith in
     unnamed_at k (i + 1) xs j ∙ ap (λ (n : ℕ). unless_named k n (get_or xs j None)) at
 
 pub unnamed_none : (k : Known) (old : List (Option ℕ)) → AreUnnamedTo k 0 old old

@@ -135,8 +135,7 @@ module _ (s : Shape) (start : Start) (words : List ℕ) (first : AreFirst s star
     wide = first.wide;
     index = index_is;
     places = places_are;
-    head = subst (λ (to : ℕ → ℕ). HasHead s to words)
-        (sym (fun_ext (first_to s (common_known start) (all_known start)))) first.head;
+    head = rw (fun_ext (first_to s (common_known start) (all_known start))) first.head;
     history = refl;
     contents = subst (AreTrue s words) (sym index_is) first.contents;
     links = subst (λ (x : Index). (k : Known) → IsPublished x k → link_of s words k ≡ 0) (sym index_is) first.links;
