@@ -6,7 +6,7 @@ use Rattle.std.proofs.lemmas.Nat.{mul-lt}
 use Rattle.std.proofs.lemmas.List.{get_or-replicate}
 use Rattle.hm_model.specs.History.{starting_count}
 use Rattle.hm_moves.specs.Chain.{AreTrue}
-use Rattle.hm_moves.specs.Places.{HasHead, row_count}
+use Rattle.hm_moves.specs.Places.{row_count}
 use Rattle.hm_moves.specs.Fresh.{fresh_index, fresh_part, fresh_places, fresh_used, IsFreshHeap, IsFreshCore}
 use Rattle.hm_moves.specs.FirstWords.{AreFirst}
 use Rattle.hm_moves.proofs.Fresh.{numbered, numbered_at, used_first, used_other, good_fresh}
