@@ -45,16 +45,11 @@ abbrev AreApart : PlainStore → Type 0
 AreApart [] = Unit {0}
 AreApart (p ∷ s) = (contents_of s p.0 ≡ None) × AreApart s
 
--- what a store of more does not have, one of less has not either
-none_behind : (p : Name × Contents) (s : PlainStore) (n : Name) → contents_of (p ∷ s) n ≡ None
-    → (p.0 ≢ n) × (contents_of s n ≡ None)
-none_behind p s n h = grind (arith, other_names p.0 n)
-
 apart_push : (s : PlainStore) (n : Name) (x : Contents) → AreApart s → contents_of s n ≡ None
     → AreApart (s ++ (n, x) ∷ [])
 apart_push [] n x h new = (refl, tt)
 apart_push (p ∷ s) n x h new =
-    let r = none_behind p s n new in
+    let r : (p.0 ≢ n) × (contents_of s n ≡ None) = grind (arith, other_names p.0 n) in
     (contents_of-push_other s (n, x) p.0 (λ e. r.0 (sym e)) ∙ h.0, apart_push s n x h.1 r.1)
 
 apart_changed : (f : Contents → Contents) (n : Name) (s : PlainStore) → AreApart s
@@ -100,11 +95,8 @@ changed_to f n [] x h = refl
 changed_to f n (p ∷ s) x h = grind (arith, changed_to f n s x)
 
 -- a change leaves each name at its place
-abbrev HasName : PlainStore → ℕ → Name → Type 0
-HasName s i n = (y : Contents) × (slice_get s i ≡ Some (n, y))
-
 name_stays : (f : Contents → Contents) (m : Name) (s : PlainStore) (i : ℕ) (n : Name) (x : Contents)
-    → slice_get s i ≡ Some (n, x) → HasName (with_changed f m s) i n
+    → slice_get s i ≡ Some (n, x) → (y : Contents) × (slice_get (with_changed f m s) i ≡ Some (n, y))
 name_stays f m [] i n x e = absurd (cc)
 name_stays f m (p ∷ s) zero n x e = ⊎_elim
     (λ (is : is_same p.0 m ≡ true). rw is (f p.1, grind arith))
@@ -249,11 +241,13 @@ module _ {V : Type 0} (f : V → List ℕ) (places : List V) (i : ℕ) (v w : V)
 
 -- what an entry that stores makes of the store
 pub store_effect : (s : PlainStore) (e : Entry) (q : ℕ) (n : Name) (field : Field) (x now : Contents)
-    → e ≡ Store q n field → contents_of s n ≡ Some x → now ≡ with_field field x → effect_of s e ≡ with_changed (λ _. now) n s
+    → e ≡ Store q n field → contents_of s n ≡ Some x → now ≡ with_field field x
+    → effect_of s e ≡ with_changed (λ _. now) n s
 store_effect s e q n field x now is held to = rw (is, to) (changed_to (with_field field) n s x held)
 
 pub store_if_effect : (s : PlainStore) (e : Entry) (q : ℕ) (n : Name) (stamp : ℕ) (refs : Refs)
-    (numbers : Numbers) (answer : Tried) (x now : Contents) → e ≡ StoreIf q n stamp refs numbers answer → answer ≡ Stored
+    (numbers : Numbers) (answer : Tried) (x now : Contents)
+    → e ≡ StoreIf q n stamp refs numbers answer → answer ≡ Stored
     → contents_of s n ≡ Some x → now ≡ with_all refs numbers x → effect_of s e ≡ with_changed (λ _. now) n s
 store_if_effect s e q n stamp refs numbers answer x now is stored held to =
     rw (is, stored, to) (changed_to (with_all refs numbers) n s x held)

@@ -2,6 +2,7 @@
 use Rattle.std.proofs.Common.{◌≡◌, ◌<◌, ◌≤◌, ◌+◌, ℕ, zero, suc, List, [], ◌∷◌, length, get_or, set, Option, Some, None, refl, sym, ap, ◌∙◌, arith}
 use Rattle.hm_core.proofs.Words.{length-set, get_or-set_same, get_or-set_other, ℕ_discrete, dite, Known}
 use Rattle.std.proofs.lemmas.List.{ext_get_or}
+use Rattle.hm_moves.proofs.Held.{unnamed_wide}
 use Rattle.hm_moves.specs.After.{unless_named, unnamed_from, unnamed}
 
 -- words of a draft have been looked at as far as the i-th, so that none of them names a version
@@ -10,16 +11,11 @@ pub record AreUnnamedTo (k : Known) (i : ℕ) (old new : List (Option ℕ)) : Ty
   pub before : (j : ℕ) → j < i → get_or new j None ≡ unless_named k j (get_or old j None)
   pub behind : (j : ℕ) → i ≤ j → get_or new j None ≡ get_or old j None
 
-pub unnamed_long : (k : Known) (i : ℕ) (l : List (Option ℕ)) → length (unnamed_from k i l) ≡ length l
-unnamed_long k i [] = refl
-unnamed_long k i (x ∷ xs) = ap suc (unnamed_long k (i + 1) xs)
-
 unnamed_at : (k : Known) (i : ℕ) (l : List (Option ℕ)) (j : ℕ)
     → get_or (unnamed_from k i l) j None ≡ unless_named k (i + j) (get_or l j None)
 unnamed_at k i [] j = refl
 unnamed_at k i (x ∷ xs) zero = let at : i ≡ i + 0 = omega arith in ap (λ (n : ℕ). unless_named k n x) at
-unnamed_at k i (x ∷ xs) (suc j) =
-    let at : (i + 1) + j ≡ i + suc j = omega arith in
+unnamed_at k i (x ∷ xs) (suc j) = let at : (i + 1) + j ≡ i + suc j = omega arith in
     unnamed_at k (i + 1) xs j ∙ ap (λ (n : ℕ). unless_named k n (get_or xs j None)) at
 
 pub unnamed_none : (k : Known) (old : List (Option ℕ)) → AreUnnamedTo k 0 old old
@@ -41,6 +37,6 @@ pub unnamed_all : (k : Known) (i : ℕ) (old new : List (Option ℕ)) → AreUnn
     → new ≡ unnamed (Some k) old
 unnamed_all k i old new h far =
     let long = h.long in
-    ext_get_or None new (unnamed_from k 0 old) (h.long ∙ sym (unnamed_long k 0 old))
+    ext_get_or None new (unnamed_from k 0 old) (h.long ∙ sym (unnamed_wide (Some k) old))
     (λ j low. let at : j ≡ 0 + j = omega arith in h.before j (omega arith)
     ∙ (ap (λ (n : ℕ). unless_named k n (get_or old j None)) at ∙ sym (unnamed_at k 0 old j)))

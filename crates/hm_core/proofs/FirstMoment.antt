@@ -6,7 +6,7 @@ use Rattle.std.proofs.lemmas.Nat.{mul-lt}
 use Rattle.std.proofs.lemmas.List.{get_or-replicate}
 use Rattle.hm_model.specs.History.{starting_count}
 use Rattle.hm_moves.specs.Chain.{AreTrue}
-use Rattle.hm_moves.specs.Places.{HasHead, row_count}
+use Rattle.hm_moves.specs.Places.{row_count}
 use Rattle.hm_moves.specs.Fresh.{fresh_index, fresh_part, fresh_places, fresh_used, IsFreshHeap, IsFreshCore}
 use Rattle.hm_moves.specs.FirstWords.{AreFirst}
 use Rattle.hm_moves.proofs.Fresh.{numbered, numbered_at, used_first, used_other, good_fresh}
@@ -35,9 +35,8 @@ seats_long seen (suc n) =
     let b = seats_long seen n in omega arith
 
 -- the seat at a place is that caller's
-seat_of : {B : Type 0} (f : SeatState → B) (seen n j : ℕ) (v : B) → get_elem? (map f (first_seats seen n)) j
-    ≡ some v
-    → (j < n) × (f (record { seen = seen; parts = j ∷ [] }) ≡ v)
+seat_of : {B : Type 0} (f : SeatState → B) (seen n j : ℕ) (v : B)
+    → get_elem? (map f (first_seats seen n)) j ≡ some v → (j < n) × (f (record { seen = seen; parts = j ∷ [] }) ≡ v)
 seat_of f seen zero j v e = absurd (let low = at_below (map f (first_seats seen zero)) j v e in omega arith)
 seat_of f seen (suc n) j v e =
     let last : SeatState = record { seen = seen; parts = n ∷ [] } in
@@ -136,12 +135,10 @@ module _ (s : Shape) (start : Start) (words : List ℕ) (first : AreFirst s star
     wide = first.wide;
     index = index_is;
     places = places_are;
-    head = subst (λ (to : ℕ → ℕ). HasHead s to words)
-        (sym (fun_ext (first_to s (common_known start) (all_known start)))) first.head;
+    head = rw (fun_ext (first_to s (common_known start) (all_known start))) first.head;
     history = refl;
     contents = subst (AreTrue s words) (sym index_is) first.contents;
-    links = subst (λ (x : Index). (k : Known) → IsPublished x k → link_of s words k ≡ 0) (sym index_is)
-        first.links;
+    links = subst (λ (x : Index). (k : Known) → IsPublished x k → link_of s words k ≡ 0) (sym index_is) first.links;
   }
 
   hand_own : (q : ℕ) → suc q < s.callers → hand_at m (suc q) ≡ fresh_hand s.versions (common_known start) []
@@ -160,16 +157,12 @@ module _ (s : Shape) (start : Start) (words : List ℕ) (first : AreFirst s star
       is ∙ rw (ne_eqb (suc q) 0 (λ z. omega arith)) refl
 
   -- a view is of one caller, with its fresh part
-  record IsOwn (j k : ℕ) (v : View AnyUsage) (p : Part AnyUsage) : Type 0 where
-    low : j < s.callers
-    place : k ≡ 0
-    is : own_part m j ≡ p
-
-  own : (j k : ℕ) (v : View AnyUsage) (p : Part AnyUsage) → Carries (core_of m).views j k v p → IsOwn j k v p
+  own : (j k : ℕ) (v : View AnyUsage) (p : Part AnyUsage) → Carries (core_of m).views j k v p
+      → (j < s.callers) × (k ≡ 0) × (own_part m j ≡ p)
   own j k v p at =
       let a = seat_of (seat_view m) (length (opening_of start)) s.callers j v at.seat in
       let b = one_at (own_part m j) p k (ap (λ (w : View AnyUsage). get_elem? w.parts k) a.1 ∙ at.place) in
-      record { low = a.0; place = b.0; is = b.1 }
+      (a.0, b.0, b.1)
 
   pub first_fresh : IsFreshCore (site_of m) (core_of m)
   first_fresh = record {
@@ -179,13 +172,13 @@ module _ (s : Shape) (start : Start) (words : List ℕ) (first : AreFirst s star
         ∙ take_all (length (opening_of start)) (opening_of start) (omega arith);
     parts = λ j k v p at.
         let o = own j k v p at in
-        let number : j ≡ p.number = ap (λ (q : Part AnyUsage). q.number) o.is in
-        (grind arith, sym o.is ∙ (part_is j o.low ∙ ap (fresh_part (site_of m)) number));
+        let number : j ≡ p.number = ap (λ (q : Part AnyUsage). q.number) o.2 in
+        (let low = o.0 in omega arith, sym o.2 ∙ (part_is j o.0 ∙ ap (fresh_part (site_of m)) number));
     apart = λ j k i n v w p q a b same.
         let x = own j k v p a in
         let y = own i n w q b in
-        let one : j ≡ p.number = ap (λ (z : Part AnyUsage). z.number) x.is in
-        let two : i ≡ q.number = ap (λ (z : Part AnyUsage). z.number) y.is in (grind arith, grind arith);
+        let one : j ≡ p.number = ap (λ (z : Part AnyUsage). z.number) x.2 in
+        let two : i ≡ q.number = ap (λ (z : Part AnyUsage). z.number) y.2 in (grind arith, x.1 ∙ sym y.1);
   }
 
   hands_sound : (q : ℕ) → q < s.callers → IsSoundHand m (hand_at m q)
@@ -202,8 +195,7 @@ module _ (s : Shape) (start : Start) (words : List ℕ) (first : AreFirst s star
         let b = length-map (all_known start) (λ (k : Known). Some k) in
         let c = length-replicate {A = Option Known} (version_count s - length (all_known start)) None in
         let d = few in omega arith;
-    rows_size = length-set (replicate {A = Row} (row_count s) no_row) 0 full
-        ∙ length-replicate (row_count s) no_row;
+    rows_size = length-set (replicate {A = Row} (row_count s) no_row) 0 full ∙ length-replicate (row_count s) no_row;
     hands_size =
         let some = s.callers_fit in
         let long = length-replicate (s.callers - 1) (fresh_hand s.versions (common_known start) []) in omega arith;

@@ -55,8 +55,7 @@ pub opening_created : (start : Start) → creates_of (all_known start) ≡ openi
 opening_created start =
     map-append (λ (k : Known). Create 0 k.name k.contents.refs k.contents.numbers)
     (side_known 0 start.sides) (common_known start ∷ [])
-    ∙ ap (λ (l : List Entry). l ++ Create 0 (common_name start) (side_names 0 start.sides) start.numbers ∷ [])
-    (creates_are 0 start.sides)
+    ∙ rw (creates_are 0 start.sides) refl
 
 -- a Create that stands comes behind those before it
 pub next_stands : (firsts : List Known) (i : ℕ) (d : Known) (entries : List Entry) (e : Entry)
