@@ -144,7 +144,7 @@ module _ (m : Moment) (q : ℕ) (mv : Move) where
     low = awake_below m sound q awake
 
     below : q < length m.hands
-    below = let size = sound.hands_size in let a = low in omega arith
+    below = omega (arith, sound.hands_size, low)
 
     pub fresh_next : IfSome fresh (λ k. (k.version ≡ next_version p) × HasRoom p)
     fresh_next = next_now any_store any_entry (core_of m).heap (own_view m q).seen p sound.good.heap mine _ _
@@ -155,18 +155,13 @@ module _ (m : Moment) (q : ℕ) (mv : Move) where
         mv.act may.act x
 
     pub fresh_below : IfSome fresh (λ k. k.version.0 < length m.known)
-    fresh_below = some_more (λ (k : Known). (k.version ≡ next_version p) × HasRoom p)
-        (λ (k : Known). k.version.0 < length m.known)
+    fresh_below = some_more (λ (k : Known). (k.version ≡ next_version p) × HasRoom p) _
         (λ k h.
         let small = next_small any_store any_entry (core_of m).heap (own_view m q).seen p sound.good.heap mine
-        h.1 in
-        let at : k.version.0 ≡ (next_version p).0 = ap (λ (v : Version). v.0) h.0 in
-        let size = sound.known_size in omega arith) fresh fresh_next
+        h.1 in omega (arith, small, ap (λ (v : Version). v.0) h.0, sound.known_size)) _ fresh_next
 
     pub row_low : row < length m.rows
-    row_low =
-        let size = sound.rows_size in
-        let a = row_below (core_of m).heap (own_view m q).seen p mine in omega arith
+    row_low = omega (arith, sound.rows_size, row_below (core_of m).heap (own_view m q).seen p mine)
 
     hand_is : hand_at after q ≡ hand
     hand_is = get_or-set_same m.hands q hand no_hand below
@@ -209,16 +204,12 @@ module _ (m : Moment) (q : ℕ) (mv : Move) where
 
     hands_sound : (r : ℕ) → r < m.shape.callers → IsSoundHand after (hand_at after r)
     hands_sound r small = dite (ℕ_discrete r q)
-        (λ same.
-        let old = sound.hands q low in
-        subst (IsSoundHand after) (sym (ap (hand_at after) same ∙ hand_is)) record {
+        (λ same. let old = sound.hands q low in rw (same, hand_is) record {
           region = old.region;
           room = old.room;
           own = listed_more (hand_at m q).hands.own (hand_at m q).draft.used fresh old.own;
         })
-        (λ ne.
-        let old = sound.hands r small in
-        subst (IsSoundHand after) (sym (get_or-set_other m.hands q r hand no_hand ne))
+        (λ ne. let old = sound.hands r small in rw (get_or-set_other m.hands q r hand no_hand ne)
         record { region = old.region; room = old.room; own = old.own })
 
     seats_seen : HasSeen (length after.history) after.seats
@@ -227,9 +218,8 @@ module _ (m : Moment) (q : ℕ) (mv : Move) where
       where
         own_low : (o : Option Entry) → (seat_with (seat_at m q) (length m.history) o).seen
             ≤ length (m.history ++ listed o)
-        own_low None =
-            let old = sound.seen q in let longer = length-append m.history (listed None) in omega arith
-        own_low (Some f) = let longer = length-append m.history (listed (Some f)) in omega arith
+        own_low None = omega (arith, sound.seen q, length-append m.history (listed None))
+        own_low (Some f) = omega (arith, length-append m.history (listed (Some f)))
 
     -- and are sound again
     pub sound_after : IsSound after

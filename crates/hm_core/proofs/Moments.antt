@@ -130,11 +130,7 @@ module _ (m : Moment) where
 pub word_past : (m : Moment) → IsSound m → (i : ℕ) (o : Option ℕ) → o ≡ slice_get m.words i
     → IsNone o ↔ (word_count m.shape ≤ i)
 word_past m sound i o is = (
-  λ none. dite (dec_le (word_count m.shape) i) (λ past. past) (λ low. absurd (within (omega arith) none)),
-  λ past. subst (λ (z : Option ℕ). IsNone z) (sym (is ∙ slice_get_past m.words i (let wide = sound.good.heap.wide in omega arith))) refl,
+  λ none. dite (dec_le (word_count m.shape) i) (λ past. past) (λ low. let wide = sound.good.heap.wide in
+      let there = slice_get-get_or m.words i 0 (omega arith) in absurd (cc)),
+  λ past. rw (is ∙ slice_get_past m.words i (omega (arith, sound.good.heap.wide))) refl,
 )
-  where
-    within : i < word_count m.shape → IsNone o → ⊥
-    within low none =
-        let wide = sound.good.heap.wide in
-        let there = slice_get-get_or m.words i 0 (omega arith) in cc

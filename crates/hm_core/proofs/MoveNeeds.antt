@@ -19,18 +19,8 @@ use Rattle.hm_core.proofs.AfterMove.{after, sound_after, fresh_next, fresh_below
 few_versions : (s : Shape) → version_count s ≤ 2097152
 few_versions s =
     let a = s.callers_fit in
-    let four = s.regions_fit in
-    let b = s.versions_fit in
-    let rows : s.callers * s.regions ≤ 32 = subst (λ (r : ℕ). s.callers * r ≤ 32) (sym four) (omega arith) in
-    let c = mul-le-mul_right s.versions rows in
-    omega arith
-
-none_has : {A : Type 0} (P : A → Type 0) (o : Option A) → o ≡ None → IfSome o P
-none_has P None e = tt
-none_has P (Some a) e = absurd (cc)
-
-some_has : {A : Type 0} (P : A → Type 0) (o : Option A) (a : A) → o ≡ Some a → P a → IfSome o P
-some_has P o a e h = subst (λ (z : Option _). IfSome z P) (sym e) h
+    let rows : s.callers * s.regions ≤ 32 = rw s.regions_fit (omega arith) in
+    omega (arith, mul-le-mul_right s.versions rows, s.versions_fit)
 
 certain : {A : Type 0} (P : Type 0) (o : Option A) → P → IfSome o (λ a. P)
 certain P None h = tt
@@ -86,12 +76,10 @@ module _ (m : Moment) (sound : IsSound m) (q : ℕ)
       let few = few_versions m.shape in
       let stamp = fit.sized.stamp in
       let rank = fit.rank in
-      some_has (λ (c : Contents). c.stamp + 1 < 2 ^ 64) (contents_of (store_of m.history) (name_of e))
-      at.contents
-      (ap (contents_of (store_of m.history)) name
+      subst (λ (o : Option Contents). IfSome o (λ c. c.stamp + 1 < 2 ^ 64))
+      (sym (ap (contents_of (store_of m.history)) name
       ∙ present_at any_store any_entry (core_of m).heap (own_view m q).seen (own_part m q) sound.good.heap
-      (part_good m sound q awake) at look zero_link)
-      (omega arith)
+      (part_good m sound q awake) at look zero_link)) (omega arith)
 
   stamp_fits : (a : Act) → MayTake (IsThere (store_of m.history))
       (λ e. Stands (store_of m.history) e → any_entry record {} (store_of m.history) e) (own_part m q) a
@@ -101,7 +89,7 @@ module _ (m : Moment) (sound : IsSound m) (q : ℕ)
   stamp_fits (Looks (LoadLink at (Some e))) h zero is stands =
       present_stamp e at (reads_name _ (own_part m q) at e h.reads) h.look is
   stamp_fits (Builds (Publish k)) h y is stands =
-      none_has (λ (c : Contents). c.stamp + 1 < 2 ^ 64) (contents_of (store_of m.history) k.name) stands.fresh
+      subst (λ (o : Option Contents). IfSome o (λ c. c.stamp + 1 < 2 ^ 64)) (sym stands.fresh) tt
   stamp_fits (Builds (LinkStore at k (Some e))) h zero is stands =
       present_stamp e at (turns_name _ (own_part m q) at k.contents e h.turns) h.look is
   stamp_fits (Looks (LoadLink at (Some e))) h (suc n) is stands = tt
@@ -114,9 +102,8 @@ module _ (m : Moment) (sound : IsSound m) (q : ℕ)
 
   -- it is by one of the callers
   pub entry_below : IfSome (entry_of q mv.act x) (λ e. caller_of e < m.shape.callers)
-  entry_below = some_more (λ (e : Entry). caller_of e ≡ q) (λ (e : Entry). caller_of e < m.shape.callers)
-      (λ e by. let low = awake_below m sound q awake in omega arith) (entry_of q mv.act x)
-      (entry_own m q mv sound awake may)
+  entry_below = some_more (λ (e : Entry). caller_of e ≡ q) _
+      (λ e by. omega (arith, awake_below m sound q awake)) _ (entry_own m q mv sound awake may)
 
   own_word : (a : Act) → MayTake (IsThere (store_of m.history))
       (λ e. Stands (store_of m.history) e → any_entry record {} (store_of m.history) e) (own_part m q) a
@@ -136,8 +123,7 @@ module _ (m : Moment) (sound : IsSound m) (q : ℕ)
             (CanPublish (hand_at m q))
             (λ k h.
             let own = mine.own in let size = mine.room in let few = m.shape.versions_fit in
-            let left = h.1 in (omega arith, omega arith))
-            (publishes mv.act x) (fresh_next m q mv sound awake may);
+            let left = h.1 in (omega arith, omega arith)) _ (fresh_next m q mv sound awake may);
         one = one_at_most (index_of m.known) (own_part m q) mv.act x;
         word = own_word mv.act may.act;
       }
