@@ -1,7 +1,7 @@
 -- The plain data after a move: they tell the state after it, and are sound.
-use Rattle.std.proofs.Common.{◌≡◌, ◌≢◌, ◌<◌, ◌≤◌, ◌+◌, ◌==◌, ℕ, zero, suc, List, [], ◌∷◌, ◌++◌, length, map, take, set, Option, Some, None, IfSome, if◌then◌else◌, eq-eqb, ne_eqb, refl, sym, ap, ◌∙◌, subst, arith, length-set, length-append, get_or-set_other, get_or-set_same, slice_index_or}
+use Rattle.std.proofs.Common.{◌≡◌, ◌≢◌, ◌<◌, ◌≤◌, ◌+◌, ◌==◌, ℕ, zero, suc, List, [], ◌∷◌, ◌++◌, length, take, set, Option, Some, None, IfSome, if◌then◌else◌, eq-eqb, ne_eqb, refl, sym, ap, ◌∙◌, subst, arith, length-set, length-append, get_or-set_other, get_or-set_same, slice_index_or}
 use Rattle.std.specs.Prelude.{slice_index, slice_index_or, slice_set}
-use Rattle.hm_core.proofs.Words.{fun_ext, take-append-le, take_all, set-get_or, slice_get_within, ℕ_discrete, dite, Version, Entry, AnyUsage, calls_of, Known, Part, Move, Index, becomes, entry_of, finds, listed, next_version, publishes, word_of, row_of_part, view, HasRoom, IsLawfulMove, Core, Good, PartIsGood, IsBy, some_more, Row, HandState, hand_after, no_hand, SeatState, no_seat, IsAwake, Moment, any_store, any_entry, core_of, hand_at, index_of, known_with, no_row, own_part, own_view, places_of, row_at, row_with, seat_at, seat_view, seat_with, site_of, IsSound, IsSoundHand}
+use Rattle.hm_core.proofs.Words.{fun_ext, take-append-le, take_all, set-get_or, ℕ_discrete, dite, Version, Entry, AnyUsage, calls_of, Known, Part, Move, Index, becomes, entry_of, finds, listed, next_version, publishes, word_of, row_of_part, HasRoom, IsLawfulMove, Core, Good, PartIsGood, IsBy, some_more, Row, HandState, hand_after, no_hand, SeatState, no_seat, IsAwake, Moment, any_store, any_entry, core_of, hand_at, index_of, known_with, no_row, own_part, own_view, places_of, row_at, row_with, seat_at, seat_with, site_of, IsSound, IsSoundHand}
 use Rattle.std.proofs.lemmas.Grind.{get_or-set_at}
 use Rattle.hm_model.specs.Lawful.{UsageLaws}
 use Rattle.hm_moves.specs.Places.{Places, places_with, raised}
@@ -64,10 +64,8 @@ places_is rows to row None low =
     let same = set-get_or rows row no_row in cc
 places_is rows to row (Some k) low =
     let new = row_with (row_at rows row) (Some k) in
-    let here : (r : ℕ) → r ≡ row → row_at (set rows row new) r ≡ new =
-    λ r e. get_or-set_at rows row r new no_row e low in
-    let there : (r : ℕ) → r ≢ row → row_at (set rows row new) r ≡ row_at rows r =
-    λ r ne. get_or-set_other rows row r new no_row ne in
+    let here = λ (r : ℕ) (e : r ≡ row). get_or-set_at rows row r new no_row e low in
+    let there = λ (r : ℕ) (ne : r ≢ row). get_or-set_other rows row r new no_row ne in
     let was = places_by rows to in
     let now = places_by (set rows row new) to in
     let used : now.used ≡ raised was.used row = fun_ext (λ r. dite (ℕ_discrete r row)

@@ -1,5 +1,5 @@
 -- An accepted step that moves a word is a lawful move, and every step that is taken leads on.
-use Rattle.std.proofs.Common.{◌≡◌, ◌≢◌, ◌<◌, ◌+◌, ℕ, length, Option, Some, None, IfSome, Contains, refl, sym, ap, ◌∙◌, subst, arith, inl}
+use Rattle.std.proofs.Common.{◌≡◌, ◌≢◌, ◌<◌, ◌+◌, ℕ, length, Option, Some, None, IfSome, Contains, refl, sym, ◌∙◌, subst, arith, inl}
 use Rattle.hm_core.proofs.Words.{slice_get_within, Version, AnyUsage, IsThere, Stands, store_of, Known, Part, Act, Looks, Builds, Index, HasHand, MayHold, MayTake, IsLawfulMove, Core, Leads, here, let_go, cut, met, Step, StepKind, Note, act_of, IsAwake, MayMeet, Fits, Moment, any_store, any_entry, core_of, index_of, own_part, own_view, IsSound}
 use Rattle.hm_moves.specs.declared.moving.Look.TheVariants as look
 use Rattle.hm_moves.specs.declared.moving.Build.TheVariants as build

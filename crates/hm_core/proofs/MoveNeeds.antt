@@ -2,7 +2,7 @@
 use Rattle.std.proofs.Common.{◌≡◌, ◌<◌, ◌≤◌, ◌+◌, ◌*◌, ◌^◌, ℕ, zero, suc, List, [], ◌∷◌, ◌++◌, length, get_or, set, Option, Some, None, IfSome, refl, sym, ap, ◌∙◌, subst, arith}
 use Rattle.std.specs.Prelude.{slice_index}
 use Rattle.std.proofs.Math.Nat.{mul-le-mul_right, mul-le-mul_left}
-use Rattle.hm_core.proofs.Words.{Shape, version_count, Name, Contents, Stored, Changed, Entry, Fetch, Store, StoreIf, contents_of, IsThere, Stands, store_of, AllStand, all_stand_parts, Known, Part, LoadStamp, LoadReference, LoadNumber, Act, Looks, Builds, Move, Index, link_of, becomes, entry_of, finds, listed, next_version, publishes, word_of, row_of_part, HasHand, HasRoom, MayHold, MayLookInto, Reads, Turns, MayTake, IsLawfulMove, some_more, HasNextStamp, Row, HandState, hand_after, SeatState, IsAwake, Moment, any_store, any_entry, core_of, hand_at, index_of, known_with, own_part, own_view, row_at, row_with, seat_at, seat_with, IsSound}
+use Rattle.hm_core.proofs.Words.{Shape, version_count, Name, Contents, Stored, Changed, Entry, Fetch, Store, StoreIf, contents_of, IsThere, Stands, store_of, AllStand, all_stand_parts, Known, Part, LoadReference, Act, Looks, Builds, Move, Index, link_of, becomes, entry_of, finds, listed, next_version, publishes, word_of, row_of_part, HasHand, HasRoom, MayHold, MayLookInto, Reads, Turns, MayTake, IsLawfulMove, some_more, HasNextStamp, Row, HandState, hand_after, SeatState, IsAwake, Moment, any_store, any_entry, core_of, hand_at, index_of, known_with, own_part, own_view, row_at, row_with, seat_with, IsSound}
 use Rattle.hm_model.specs.Effect.{caller_of}
 use Rattle.hm_moves.specs.declared.moving.Look.TheVariants.{LoadLink}
 use Rattle.hm_moves.specs.declared.moving.Build.TheVariants.{StoreOwn, Publish, LinkStore}
@@ -220,9 +220,7 @@ module _ {a m : Moment} {q : ℕ} {mv : Move} {at y : ℕ} (read : HasRead a m q
         seats = set a.seats q s';
       } ≡ after m q mv
   after_is {b} {row} {known} {es} {r} {r'} {h} {h'} {s} {s'} {o} {f} {n} eb erow lrow ek ees er er' eh eh' es' es'' eo ef en =
-      let x_is = word_found in
       let r_is = row_read a m read.same read.sound q read.awake row r lrow er in
       let h_is = hand_read a m read.same read.sound q read.awake h eh in
       let s_is = seat_read a m read.same read.sound q read.awake s es' in
-      let same = read.same in
-      let word = read.word in cc
+      let x_is = word_found in let same = read.same in let word = read.word in cc

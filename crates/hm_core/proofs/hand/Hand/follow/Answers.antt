@@ -1,6 +1,4 @@
 -- There is a place for the version that is found or published.
-use Rattle.std.proofs.Common.{Option, IfSome, ◌≡◌, None, sym, subst}
-use Rattle.hm_core.proofs.Words.{Known, CanHold}
 use Rattle.hm_core.proofs.HeldTests.{can_still, can_also}
 use Rattle.hm_core.proofs.hand.Hand.follow.Goals as goal
 
