@@ -71,9 +71,8 @@ module _ (m : Moment) (sound : IsSound m) (q : ℕ)
   meets_other : (o : Other) → MayMeet (core_of m) m.shape.callers q o
       → (seat_of m.shape.callers o ≢ q) × (seat_of m.shape.callers o < length m.seats)
   meets_other (Note i) (w, there, nonempty) =
-      let low = awake_below m sound q awake in
       let t = view_from m (m.shape.callers + i) w there in
-      let inside = slice_get_within m.seats (m.shape.callers + i) t.0 t.1 in ((λ same. omega arith), inside)
+      (λ same. omega (arith, awake_below m sound q awake), slice_get_within m.seats (m.shape.callers + i) t.0 t.1)
   meets_other (Caller r) (below, ne, alone) = let size = sound.seats_size in (ne, omega arith)
 
 -- the seat that an admitted step meets

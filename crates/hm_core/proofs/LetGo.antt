@@ -168,8 +168,7 @@ module _ (m : Moment) (q : ℕ) (o : Option Known) where
 
     pub sound_met : (other : ℕ) → other ≢ q → other < length m.seats → IsSound (met_with other)
     sound_met other ne inside =
-        let size = sound.seats_size in
-        let a = length-set m.seats q (both other) in
+        let size = sound.seats_size in let a = length-set m.seats q (both other) in
         let b = length-set (set m.seats q (both other)) other no_seat in
         sound_seats (set (set m.seats q (both other)) other no_seat) (joined_to m q o other)
         (core_met other ne inside) (meet_leads other ne inside) (omega arith)
