@@ -1,7 +1,7 @@
 -- The plain data after a move: they tell the state after it, and are sound.
-use Rattle.std.proofs.Common.{◌≡◌, ◌≢◌, ◌<◌, ◌≤◌, ◌+◌, ◌==◌, ℕ, zero, suc, List, [], ◌∷◌, ◌++◌, length, map, take, set, Option, Some, None, IfSome, if◌then◌else◌, eq-eqb, ne_eqb, refl, sym, ap, ◌∙◌, subst, arith, length-set, length-append, get_or-set_other, get_or-set_same, slice_index_or}
+use Rattle.std.proofs.Common.{◌≡◌, ◌≢◌, ◌<◌, ◌≤◌, ◌+◌, ◌==◌, ℕ, zero, suc, List, [], ◌∷◌, ◌++◌, length, take, set, Option, Some, None, IfSome, if◌then◌else◌, eq-eqb, ne_eqb, refl, sym, ap, ◌∙◌, subst, arith, length-set, length-append, get_or-set_other, get_or-set_same, slice_index_or}
 use Rattle.std.specs.Prelude.{slice_index, slice_index_or, slice_set}
-use Rattle.hm_core.proofs.Words.{fun_ext, take-append-le, take_all, set-get_or, slice_get_within, ℕ_discrete, dite, Version, Entry, AnyUsage, calls_of, Known, Part, Move, Index, becomes, entry_of, finds, listed, next_version, publishes, word_of, row_of_part, view, HasRoom, IsLawfulMove, Core, Good, PartIsGood, IsBy, some_more, Row, HandState, hand_after, no_hand, SeatState, no_seat, IsAwake, Moment, any_store, any_entry, core_of, hand_at, index_of, known_with, no_row, own_part, own_view, places_of, row_at, row_with, seat_at, seat_view, seat_with, site_of, IsSound, IsSoundHand}
+use Rattle.hm_core.proofs.Words.{fun_ext, take-append-le, take_all, set-get_or, ℕ_discrete, dite, Version, Entry, AnyUsage, calls_of, Known, Part, Move, Index, becomes, entry_of, finds, listed, next_version, publishes, word_of, row_of_part, HasRoom, IsLawfulMove, Core, Good, PartIsGood, IsBy, some_more, Row, HandState, hand_after, no_hand, SeatState, no_seat, IsAwake, Moment, any_store, any_entry, core_of, hand_at, index_of, known_with, no_row, own_part, own_view, places_of, row_at, row_with, seat_at, seat_with, site_of, IsSound, IsSoundHand}
 use Rattle.std.proofs.lemmas.Grind.{get_or-set_at}
 use Rattle.hm_model.specs.Lawful.{UsageLaws}
 use Rattle.hm_moves.specs.Places.{Places, places_with, raised}
@@ -64,10 +64,8 @@ places_is rows to row None low =
     let same = set-get_or rows row no_row in cc
 places_is rows to row (Some k) low =
     let new = row_with (row_at rows row) (Some k) in
-    let here : (r : ℕ) → r ≡ row → row_at (set rows row new) r ≡ new =
-    λ r e. get_or-set_at rows row r new no_row e low in
-    let there : (r : ℕ) → r ≢ row → row_at (set rows row new) r ≡ row_at rows r =
-    λ r ne. get_or-set_other rows row r new no_row ne in
+    let here = λ (r : ℕ) (e : r ≡ row). get_or-set_at rows row r new no_row e low in
+    let there = λ (r : ℕ) (ne : r ≢ row). get_or-set_other rows row r new no_row ne in
     let was = places_by rows to in
     let now = places_by (set rows row new) to in
     let used : now.used ≡ raised was.used row = fun_ext (λ r. dite (ℕ_discrete r row)
@@ -144,7 +142,7 @@ module _ (m : Moment) (q : ℕ) (mv : Move) where
     low = awake_below m sound q awake
 
     below : q < length m.hands
-    below = let size = sound.hands_size in let a = low in omega arith
+    below = omega (arith, sound.hands_size, low)
 
     pub fresh_next : IfSome fresh (λ k. (k.version ≡ next_version p) × HasRoom p)
     fresh_next = next_now any_store any_entry (core_of m).heap (own_view m q).seen p sound.good.heap mine _ _
@@ -155,18 +153,13 @@ module _ (m : Moment) (q : ℕ) (mv : Move) where
         mv.act may.act x
 
     pub fresh_below : IfSome fresh (λ k. k.version.0 < length m.known)
-    fresh_below = some_more (λ (k : Known). (k.version ≡ next_version p) × HasRoom p)
-        (λ (k : Known). k.version.0 < length m.known)
+    fresh_below = some_more (λ (k : Known). (k.version ≡ next_version p) × HasRoom p) _
         (λ k h.
         let small = next_small any_store any_entry (core_of m).heap (own_view m q).seen p sound.good.heap mine
-        h.1 in
-        let at : k.version.0 ≡ (next_version p).0 = ap (λ (v : Version). v.0) h.0 in
-        let size = sound.known_size in omega arith) fresh fresh_next
+        h.1 in omega (arith, small, ap (λ (v : Version). v.0) h.0, sound.known_size)) _ fresh_next
 
     pub row_low : row < length m.rows
-    row_low =
-        let size = sound.rows_size in
-        let a = row_below (core_of m).heap (own_view m q).seen p mine in omega arith
+    row_low = omega (arith, sound.rows_size, row_below (core_of m).heap (own_view m q).seen p mine)
 
     hand_is : hand_at after q ≡ hand
     hand_is = get_or-set_same m.hands q hand no_hand below
@@ -209,16 +202,12 @@ module _ (m : Moment) (q : ℕ) (mv : Move) where
 
     hands_sound : (r : ℕ) → r < m.shape.callers → IsSoundHand after (hand_at after r)
     hands_sound r small = dite (ℕ_discrete r q)
-        (λ same.
-        let old = sound.hands q low in
-        subst (IsSoundHand after) (sym (ap (hand_at after) same ∙ hand_is)) record {
+        (λ same. let old = sound.hands q low in rw (same, hand_is) record {
           region = old.region;
           room = old.room;
           own = listed_more (hand_at m q).hands.own (hand_at m q).draft.used fresh old.own;
         })
-        (λ ne.
-        let old = sound.hands r small in
-        subst (IsSoundHand after) (sym (get_or-set_other m.hands q r hand no_hand ne))
+        (λ ne. let old = sound.hands r small in rw (get_or-set_other m.hands q r hand no_hand ne)
         record { region = old.region; room = old.room; own = old.own })
 
     seats_seen : HasSeen (length after.history) after.seats
@@ -227,9 +216,8 @@ module _ (m : Moment) (q : ℕ) (mv : Move) where
       where
         own_low : (o : Option Entry) → (seat_with (seat_at m q) (length m.history) o).seen
             ≤ length (m.history ++ listed o)
-        own_low None =
-            let old = sound.seen q in let longer = length-append m.history (listed None) in omega arith
-        own_low (Some f) = let longer = length-append m.history (listed (Some f)) in omega arith
+        own_low None = omega (arith, sound.seen q, length-append m.history (listed None))
+        own_low (Some f) = omega (arith, length-append m.history (listed (Some f)))
 
     -- and are sound again
     pub sound_after : IsSound after

@@ -86,16 +86,14 @@ held_once held k e = rw e refl
 without_short : (held : List Known) (o : Option Known) → length (without held o) ≤ length held
 without_short held None = omega arith
 without_short held (Some k) =
-    let both = length-filter_both (λ m. not (is_version k m)) (is_version k)
-    (λ m. sym (not-not (is_version k m))) held in omega arith
+    omega (arith, length-filter_both (λ m. not (is_version k m)) (is_version k) (λ m. sym (not-not (is_version k m))) held)
 
 -- a hand that let go of a version can take in what it could before
 pub can_still : (h less : HandState) (o named : Option Known) → less ≡ holding h (without h.hands.held o)
     → IfSome named (CanHold h) → IfSome named (CanHold less)
 can_still h less o None is can = tt
 can_still h less o (Some k) is can =
-    let few = without_short h.hands.held o in
-    subst (λ (z : HandState). CanHold z k) (sym is) (omega arith)
+    rw is (omega (arith, without_short h.hands.held o))
 
 -- and two of which one is there at most, one after the other
 pub can_also : (h less more : HandState) (o named fresh : Option Known)
@@ -103,6 +101,5 @@ pub can_also : (h less more : HandState) (o named fresh : Option Known)
     → IfSome named (λ k. fresh ≡ None) → IfSome fresh (CanHold h) → IfSome fresh (CanHold more)
 can_also h less more o named None a b one can = tt
 can_also h less more o None (Some k) a b one can =
-    let few = without_short h.hands.held o in
-    subst (λ (z : HandState). CanHold z k) (sym b) (subst (λ (z : HandState). CanHold z k) (sym a) (omega arith))
+    rw (b, a) (omega (arith, without_short h.hands.held o))
 can_also h less more o (Some n) (Some k) a b one can = cc

@@ -1,5 +1,5 @@
 -- An accepted step that moves a word is a lawful move, and every step that is taken leads on.
-use Rattle.std.proofs.Common.{◌≡◌, ◌≢◌, ◌<◌, ◌+◌, ℕ, length, Option, Some, None, IfSome, Contains, refl, sym, ap, ◌∙◌, subst, arith, inl}
+use Rattle.std.proofs.Common.{◌≡◌, ◌≢◌, ◌<◌, ◌+◌, ℕ, length, Option, Some, None, IfSome, Contains, refl, sym, ◌∙◌, subst, arith, inl}
 use Rattle.hm_core.proofs.Words.{slice_get_within, Version, AnyUsage, IsThere, Stands, store_of, Known, Part, Act, Looks, Builds, Index, HasHand, MayHold, MayTake, IsLawfulMove, Core, Leads, here, let_go, cut, met, Step, StepKind, Note, act_of, IsAwake, MayMeet, Fits, Moment, any_store, any_entry, core_of, index_of, own_part, own_view, IsSound}
 use Rattle.hm_moves.specs.declared.moving.Look.TheVariants as look
 use Rattle.hm_moves.specs.declared.moving.Build.TheVariants as build
@@ -71,9 +71,8 @@ module _ (m : Moment) (sound : IsSound m) (q : ℕ)
   meets_other : (o : Other) → MayMeet (core_of m) m.shape.callers q o
       → (seat_of m.shape.callers o ≢ q) × (seat_of m.shape.callers o < length m.seats)
   meets_other (Note i) (w, there, nonempty) =
-      let low = awake_below m sound q awake in
       let t = view_from m (m.shape.callers + i) w there in
-      let inside = slice_get_within m.seats (m.shape.callers + i) t.0 t.1 in ((λ same. omega arith), inside)
+      (λ same. omega (arith, awake_below m sound q awake), slice_get_within m.seats (m.shape.callers + i) t.0 t.1)
   meets_other (Caller r) (below, ne, alone) = let size = sound.seats_size in (ne, omega arith)
 
 -- the seat that an admitted step meets

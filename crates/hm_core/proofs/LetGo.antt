@@ -1,10 +1,10 @@
 -- The plain data after a caller let go of a version, and its seat was then split or joined with another.
-use Rattle.std.proofs.Common.{◌≡◌, ◌≢◌, ◌<◌, ◌≤◌, ℕ, zero, suc, Bool, true, false, List, [], ◌∷◌, ◌++◌, length, map, take, set, get_or, nat_lt, if◌then◌else◌, Option, None, refl, sym, ap, ◌∙◌, subst, arith, append-nil, length-set, length-append, get_or-set_other, get_or-set_same}
-use Rattle.std.specs.Prelude.{slice_index_or, slice_set}
-use Rattle.hm_core.proofs.Words.{set-get_or, map-append, map-set, slice_get-get_or, ℕ_discrete, dite, some, some-injective, get_elem?, Entry, AnyUsage, Known, Part, View, view, Core, Good, Leads, here, let_go, cut, met, HandState, no_hand, SeatState, no_seat, IsAwake, Moment, any_store, any_entry, core_of, hand_at, own_part, own_view, places_of, seat_at, seat_view, site_of, IsSound, IsSoundHand}
+use Rattle.std.proofs.Common.{◌≡◌, ◌≢◌, ◌<◌, ◌≤◌, ℕ, zero, suc, true, false, List, [], ◌∷◌, ◌++◌, length, take, set, get_or, nat_lt, if◌then◌else◌, Option, None, refl, sym, ap, ◌∙◌, subst, arith, append-nil, length-set, length-append, get_or-set_other, get_or-set_same}
+use Rattle.std.specs.Prelude.{slice_set}
+use Rattle.hm_core.proofs.Words.{set-get_or, map-append, map-set, slice_get-get_or, ℕ_discrete, dite, some, some-injective, get_elem?, Entry, AnyUsage, Known, Part, view, Core, Good, Leads, here, let_go, cut, met, HandState, no_hand, SeatState, no_seat, IsAwake, Moment, any_store, any_entry, core_of, hand_at, own_part, own_view, seat_at, seat_view, site_of, IsSound, IsSoundHand}
 use Rattle.std.proofs.lemmas.List.{length-take-le}
 use Rattle.hm_moves.specs.After.{letting}
-use Rattle.hm_moves.specs.Good.{longer, spent_view}
+use Rattle.hm_moves.specs.Good.{longer}
 use Rattle.hm_moves.proofs.Places.{set_here, set_else}
 use Rattle.hm_moves.proofs.Safe.{good_always}
 use Rattle.hm_core.specs.Hands.{hand_letting}
@@ -58,7 +58,7 @@ module _ (m : Moment) (q : ℕ) (o : Option Known) where
     low = awake_below m sound q awake
 
     below : q < length m.hands
-    below = let size = sound.hands_size in let a = low in omega arith
+    below = omega (arith, sound.hands_size, low)
 
     hand_is : hand_at letting_go q ≡ hand_letting (hand_at m q) o
     hand_is = get_or-set_same m.hands q (hand_letting (hand_at m q) o) no_hand below
@@ -161,16 +161,14 @@ module _ (m : Moment) (q : ℕ) (o : Option Known) where
 
     pub sound_noted : IsSound noted
     sound_noted =
-        let size = sound.seats_size in
         let note : SeatState = record { seen = (seat_at m q).seen; parts = [] } in
-        let more = length-append m.seats (note ∷ []) in
-        sound_seats (m.seats ++ note ∷ []) (split_off m q o) core_noted split_leads (omega arith)
+        sound_seats (m.seats ++ note ∷ []) (split_off m q o) core_noted split_leads
+        (omega (arith, sound.seats_size, length-append m.seats (note ∷ [])))
         (seen_push (length m.history) m.seats note sound.seen (sound.seen q))
 
     pub sound_met : (other : ℕ) → other ≢ q → other < length m.seats → IsSound (met_with other)
     sound_met other ne inside =
-        let size = sound.seats_size in
-        let a = length-set m.seats q (both other) in
+        let size = sound.seats_size in let a = length-set m.seats q (both other) in
         let b = length-set (set m.seats q (both other)) other no_seat in
         sound_seats (set (set m.seats q (both other)) other no_seat) (joined_to m q o other)
         (core_met other ne inside) (meet_leads other ne inside) (omega arith)

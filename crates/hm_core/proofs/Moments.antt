@@ -1,5 +1,5 @@
 -- Seats and callers of the running machine, as the state has them.
-use Rattle.std.proofs.Common.{◌≡◌, ◌<◌, ℕ, zero, suc, List, [], ◌∷◌, map, Option, Some, None, IfSome, refl, sym, ap, ◌∙◌, subst, arith, ◌⊎◌, ◌↔◌, IsNone, inl, inr, ⊎_elim, ◌≤◌}
+use Rattle.std.proofs.Common.{◌≡◌, ◌<◌, ℕ, zero, suc, List, [], ◌∷◌, map, Option, Some, None, IfSome, refl, sym, ap, ◌∙◌, subst, arith, ◌↔◌, IsNone, ◌≤◌}
 use Rattle.std.specs.Prelude.{slice_get}
 use native.Mathlib.Decide.{dec_le}
 use Rattle.hm_core.proofs.Words.{no_seat, slice_get_past, slice_get-get_or, get_or_from_slice_get, some, some-injective, get_elem?, AnyUsage, Known, Part, View, IsPublished, PartIsGood, Version, made_count, store_of, MayLookInto, next_name, IsAwake, IsLookable, SeatState, Moment, core_of, index_of, own_part, own_view, places_of, seat_view, site_of, IsSound, dite}
@@ -130,11 +130,7 @@ module _ (m : Moment) where
 pub word_past : (m : Moment) → IsSound m → (i : ℕ) (o : Option ℕ) → o ≡ slice_get m.words i
     → IsNone o ↔ (word_count m.shape ≤ i)
 word_past m sound i o is = (
-  λ none. dite (dec_le (word_count m.shape) i) (λ past. past) (λ low. absurd (within (omega arith) none)),
-  λ past. subst (λ (z : Option ℕ). IsNone z) (sym (is ∙ slice_get_past m.words i (let wide = sound.good.heap.wide in omega arith))) refl,
+  λ none. dite (dec_le (word_count m.shape) i) (λ past. past) (λ low. let wide = sound.good.heap.wide in
+      let there = slice_get-get_or m.words i 0 (omega arith) in absurd (cc)),
+  λ past. rw (is ∙ slice_get_past m.words i (omega (arith, sound.good.heap.wide))) refl,
 )
-  where
-    within : i < word_count m.shape → IsNone o → ⊥
-    within low none =
-        let wide = sound.good.heap.wide in
-        let there = slice_get-get_or m.words i 0 (omega arith) in cc

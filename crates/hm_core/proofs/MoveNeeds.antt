@@ -2,7 +2,7 @@
 use Rattle.std.proofs.Common.{◌≡◌, ◌<◌, ◌≤◌, ◌+◌, ◌*◌, ◌^◌, ℕ, zero, suc, List, [], ◌∷◌, ◌++◌, length, get_or, set, Option, Some, None, IfSome, refl, sym, ap, ◌∙◌, subst, arith}
 use Rattle.std.specs.Prelude.{slice_index}
 use Rattle.std.proofs.Math.Nat.{mul-le-mul_right, mul-le-mul_left}
-use Rattle.hm_core.proofs.Words.{Shape, version_count, Name, Contents, Stored, Changed, Entry, Fetch, Store, StoreIf, contents_of, IsThere, Stands, store_of, AllStand, all_stand_parts, Known, Part, LoadStamp, LoadReference, LoadNumber, Act, Looks, Builds, Move, Index, link_of, becomes, entry_of, finds, listed, next_version, publishes, word_of, row_of_part, HasHand, HasRoom, MayHold, MayLookInto, Reads, Turns, MayTake, IsLawfulMove, some_more, HasNextStamp, Row, HandState, hand_after, SeatState, IsAwake, Moment, any_store, any_entry, core_of, hand_at, index_of, known_with, own_part, own_view, row_at, row_with, seat_at, seat_with, IsSound}
+use Rattle.hm_core.proofs.Words.{Shape, version_count, Name, Contents, Stored, Changed, Entry, Fetch, Store, StoreIf, contents_of, IsThere, Stands, store_of, AllStand, all_stand_parts, Known, Part, LoadReference, Act, Looks, Builds, Move, Index, link_of, becomes, entry_of, finds, listed, next_version, publishes, word_of, row_of_part, HasHand, HasRoom, MayHold, MayLookInto, Reads, Turns, MayTake, IsLawfulMove, some_more, HasNextStamp, Row, HandState, hand_after, SeatState, IsAwake, Moment, any_store, any_entry, core_of, hand_at, index_of, known_with, own_part, own_view, row_at, row_with, seat_with, IsSound}
 use Rattle.hm_model.specs.Effect.{caller_of}
 use Rattle.hm_moves.specs.declared.moving.Look.TheVariants.{LoadLink}
 use Rattle.hm_moves.specs.declared.moving.Build.TheVariants.{StoreOwn, Publish, LinkStore}
@@ -19,18 +19,8 @@ use Rattle.hm_core.proofs.AfterMove.{after, sound_after, fresh_next, fresh_below
 few_versions : (s : Shape) → version_count s ≤ 2097152
 few_versions s =
     let a = s.callers_fit in
-    let four = s.regions_fit in
-    let b = s.versions_fit in
-    let rows : s.callers * s.regions ≤ 32 = subst (λ (r : ℕ). s.callers * r ≤ 32) (sym four) (omega arith) in
-    let c = mul-le-mul_right s.versions rows in
-    omega arith
-
-none_has : {A : Type 0} (P : A → Type 0) (o : Option A) → o ≡ None → IfSome o P
-none_has P None e = tt
-none_has P (Some a) e = absurd (cc)
-
-some_has : {A : Type 0} (P : A → Type 0) (o : Option A) (a : A) → o ≡ Some a → P a → IfSome o P
-some_has P o a e h = subst (λ (z : Option _). IfSome z P) (sym e) h
+    let rows : s.callers * s.regions ≤ 32 = rw s.regions_fit (omega arith) in
+    omega (arith, mul-le-mul_right s.versions rows, s.versions_fit)
 
 certain : {A : Type 0} (P : Type 0) (o : Option A) → P → IfSome o (λ a. P)
 certain P None h = tt
@@ -86,12 +76,10 @@ module _ (m : Moment) (sound : IsSound m) (q : ℕ)
       let few = few_versions m.shape in
       let stamp = fit.sized.stamp in
       let rank = fit.rank in
-      some_has (λ (c : Contents). c.stamp + 1 < 2 ^ 64) (contents_of (store_of m.history) (name_of e))
-      at.contents
-      (ap (contents_of (store_of m.history)) name
+      subst (λ (o : Option Contents). IfSome o (λ c. c.stamp + 1 < 2 ^ 64))
+      (sym (ap (contents_of (store_of m.history)) name
       ∙ present_at any_store any_entry (core_of m).heap (own_view m q).seen (own_part m q) sound.good.heap
-      (part_good m sound q awake) at look zero_link)
-      (omega arith)
+      (part_good m sound q awake) at look zero_link)) (omega arith)
 
   stamp_fits : (a : Act) → MayTake (IsThere (store_of m.history))
       (λ e. Stands (store_of m.history) e → any_entry record {} (store_of m.history) e) (own_part m q) a
@@ -101,7 +89,7 @@ module _ (m : Moment) (sound : IsSound m) (q : ℕ)
   stamp_fits (Looks (LoadLink at (Some e))) h zero is stands =
       present_stamp e at (reads_name _ (own_part m q) at e h.reads) h.look is
   stamp_fits (Builds (Publish k)) h y is stands =
-      none_has (λ (c : Contents). c.stamp + 1 < 2 ^ 64) (contents_of (store_of m.history) k.name) stands.fresh
+      subst (λ (o : Option Contents). IfSome o (λ c. c.stamp + 1 < 2 ^ 64)) (sym stands.fresh) tt
   stamp_fits (Builds (LinkStore at k (Some e))) h zero is stands =
       present_stamp e at (turns_name _ (own_part m q) at k.contents e h.turns) h.look is
   stamp_fits (Looks (LoadLink at (Some e))) h (suc n) is stands = tt
@@ -114,9 +102,8 @@ module _ (m : Moment) (sound : IsSound m) (q : ℕ)
 
   -- it is by one of the callers
   pub entry_below : IfSome (entry_of q mv.act x) (λ e. caller_of e < m.shape.callers)
-  entry_below = some_more (λ (e : Entry). caller_of e ≡ q) (λ (e : Entry). caller_of e < m.shape.callers)
-      (λ e by. let low = awake_below m sound q awake in omega arith) (entry_of q mv.act x)
-      (entry_own m q mv sound awake may)
+  entry_below = some_more (λ (e : Entry). caller_of e ≡ q) _
+      (λ e by. omega (arith, awake_below m sound q awake)) _ (entry_own m q mv sound awake may)
 
   own_word : (a : Act) → MayTake (IsThere (store_of m.history))
       (λ e. Stands (store_of m.history) e → any_entry record {} (store_of m.history) e) (own_part m q) a
@@ -136,8 +123,7 @@ module _ (m : Moment) (sound : IsSound m) (q : ℕ)
             (CanPublish (hand_at m q))
             (λ k h.
             let own = mine.own in let size = mine.room in let few = m.shape.versions_fit in
-            let left = h.1 in (omega arith, omega arith))
-            (publishes mv.act x) (fresh_next m q mv sound awake may);
+            let left = h.1 in (omega arith, omega arith)) _ (fresh_next m q mv sound awake may);
         one = one_at_most (index_of m.known) (own_part m q) mv.act x;
         word = own_word mv.act may.act;
       }
@@ -234,9 +220,7 @@ module _ {a m : Moment} {q : ℕ} {mv : Move} {at y : ℕ} (read : HasRead a m q
         seats = set a.seats q s';
       } ≡ after m q mv
   after_is {b} {row} {known} {es} {r} {r'} {h} {h'} {s} {s'} {o} {f} {n} eb erow lrow ek ees er er' eh eh' es' es'' eo ef en =
-      let x_is = word_found in
       let r_is = row_read a m read.same read.sound q read.awake row r lrow er in
       let h_is = hand_read a m read.same read.sound q read.awake h eh in
       let s_is = seat_read a m read.same read.sound q read.awake s es' in
-      let same = read.same in
-      let word = read.word in cc
+      let x_is = word_found in let same = read.same in let word = read.word in cc

@@ -1,6 +1,4 @@
 -- There is a place for the version that is found or published.
-use Rattle.std.proofs.Common.{Option, IfSome, ◌≡◌, None, sym, subst}
-use Rattle.hm_core.proofs.Words.{Known, CanHold}
 use Rattle.hm_core.proofs.HeldTests.{can_still, can_also}
 use Rattle.hm_core.proofs.hand.Hand.follow.Goals as goal
 
@@ -11,8 +9,4 @@ take_in-requires c = can_still c.args.self.now _ c.args.m.now.let_go c.args.foun
 pub take_in-requires-2 : goal.take_in-requires-2
 take_in-requires-2 c =
     can_also c.args.self.now _ _ c.args.m.now.let_go c.args.found c.publishes-fresh.result c.leave.ensures
-    c.take_in.ensures
-    (subst (λ (o : Option Known). IfSome c.args.found (λ k. o ≡ None)) (sym c.publishes-fresh.ensures)
-    c.requires.one)
-    (subst (λ (o : Option Known). IfSome o (CanHold c.args.self.now)) (sym c.publishes-fresh.ensures)
-    c.requires.fresh)
+    c.take_in.ensures (rw c.publishes-fresh.ensures c.requires.one) (rw c.publishes-fresh.ensures c.requires.fresh)

@@ -17,8 +17,7 @@ returns-else-ne c =
       λ f.
           let t = fits_link m c.args.caller c.args.v c.in-Some.at
           c.args.entry.now (sym c.in-Some.ensures.known) f in
-          let both : Some c.in-Some-turned.contents ≡ Some t.0 = c.in-Some-turned.ensures.only t.0 t.1 in
-          let same : c.in-Some-turned.contents ≡ t.0 = cc in
+          let same : c.in-Some-turned.contents ≡ t.0 = let both = c.in-Some-turned.ensures.only t.0 t.1 in cc in
           c.is_built.ensures.built.1 (subst Built (sym same) t.3),
     )
 
@@ -29,6 +28,5 @@ returns-in-None-turned c =
       λ f.
           let t = fits_link m c.args.caller c.args.v c.in-Some.at
           c.args.entry.now (sym c.in-Some.ensures.known) f in
-          let both : None ≡ Some t.0 = c.in-None-turned.ensures.only t.0 t.1 in
-          absurd (cc),
+          let both = c.in-None-turned.ensures.only t.0 t.1 in absurd (cc),
     )

@@ -1,4 +1,4 @@
-use Rattle.std.proofs.Common.{◌≡◌, ◌+◌, ◌<◌, ℕ, Some, None, sym, ap, ◌∙◌, subst, arith}
+use Rattle.std.proofs.Common.{◌≡◌, ◌+◌, ℕ, Some, None, sym, ap, ◌∙◌, arith}
 use Rattle.std.specs.Prelude.{slice_get}
 use Rattle.hm_core.proofs.Words.{slice_get_past, nat_tests}
 use Rattle.hm_core.proofs.Seating.{note_iff, none_note}
@@ -17,10 +17,8 @@ returns-in-Some c =
     c.in-Some.ensures.seat ∙ ap (λ (x : ℕ). slice_get m.seats (x + c.args.i))
     (c.from.ensures ∙ c.callers.ensures) in
     let t = note_iff m c.in-Some.ensures.sound c.args.i c.in-Some.seat.now at in (
-      λ h. t.0 (let low : 0 < c.seen.result = grind (arith, nat_tests) in subst (λ (x : ℕ). 0 < x)
-          c.seen.ensures low),
-      λ h. let low : 0 < c.seen.result = subst (λ (x : ℕ). 0 < x) (sym c.seen.ensures) (t.1 h) in grind
-          (arith, nat_tests),
+      λ h. t.0 (grind (arith, nat_tests, c.seen.ensures)),
+      λ h. grind (arith, nat_tests, c.seen.ensures, t.1 h),
     )
 
 pub returns-in-None : goal.returns-in-None

@@ -8,9 +8,8 @@ use Rattle.hm_core.proofs.FirstMoment.{first_sound, first_fresh, moment_is}
 use Rattle.hm_core.proofs.machine.Machine.new.Goals as goal
 
 pub starting_index-requires : goal.starting_index-requires
-starting_index-requires c =
-    let firsts = ap length (c.as_slice-firsts.ensures.value ∙ c.in_ok-versions.ensures) in
-    let long = many c.args.start c.in_ok-words.ensures.first.sized in omega arith
+starting_index-requires c = omega (arith, ap length (c.as_slice-firsts.ensures.value ∙ c.in_ok-versions.ensures),
+    many c.args.start c.in_ok-words.ensures.first.sized)
 
 pub starting_chronicle-requires-clause-stand : goal.starting_chronicle-requires-clause-stand
 starting_chronicle-requires-clause-stand c =
@@ -20,15 +19,12 @@ starting_chronicle-requires-clause-stand c =
     (opening_stands c.args.start c.in_ok-words.ensures.first.sized)
 
 pub overflow_cast-firsts : goal.overflow_cast-firsts
-overflow_cast-firsts c =
-    let firsts = ap length (c.as_slice-firsts.ensures.value ∙ c.in_ok-versions.ensures) in
-    let long = many c.args.start c.in_ok-words.ensures.first.sized in
-    let few = c.args.shape.versions_fit in omega arith
+overflow_cast-firsts c = omega (arith, ap length (c.as_slice-firsts.ensures.value ∙ c.in_ok-versions.ensures),
+    many c.args.start c.in_ok-words.ensures.first.sized, c.args.shape.versions_fit)
 
 pub starting_hands-requires : goal.starting_hands-requires
-starting_hands-requires c =
-    let firsts = ap length (c.as_slice-firsts.ensures.value ∙ c.in_ok-versions.ensures) in
-    let long = many c.args.start c.in_ok-words.ensures.first.sized in omega arith
+starting_hands-requires c = omega (arith, ap length (c.as_slice-firsts.ensures.value ∙ c.in_ok-versions.ensures),
+    many c.args.start c.in_ok-words.ensures.first.sized)
 
 pub invariant_of-result : goal.invariant_of-result
 invariant_of-result c =

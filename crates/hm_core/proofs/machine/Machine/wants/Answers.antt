@@ -19,6 +19,4 @@ returns-in-None-want c scan =
     let m = c.args.self.now in
     let t = wants_fit m c.args.caller c.in-Some.ensures.sound c.requires.awake c.args.v c.in-Some.at
     c.args.want scan (sym c.in-Some.ensures.known) c.requires.look in
-    let P : Option Entry → Type 0 = λ o. IfSome o (Reads (IsThere (store_of m.history))
-    (own_part m c.args.caller) c.in-Some.at) in
-    (λ h. t.0 (subst P (sym c.in-None-want.is) tt), λ f. refl)
+    (λ h. t.0 (rw c.in-None-want.is tt), λ f. refl)
