@@ -139,7 +139,8 @@ module _ (m : Moment) (q : ℕ) (o : Option Known) where
         → IsSoundHand (record letting_go { seats = seats }) (hand_at letting_go r)
     hands_sound seats r small =
         let old = sound.hands r small in dite (ℕ_discrete r q)
-        (λ same. rw (same, hand_is) (let old = sound.hands q low in record { region = old.region; room = old.room; own = old.own }))
+        (λ same. rw (same, hand_is)
+        (let old = sound.hands q low in record { region = old.region; room = old.room; own = old.own }))
         (λ ne. rw (hand_else r ne) record { region = old.region; room = old.room; own = old.own })
 
     -- and are sound with such seats, where the state is good
