@@ -1,13 +1,9 @@
 -- The plain data after a move: they tell the state after it, and are sound.
 use Rattle.std.proofs.Common.{◌≡◌, ◌≢◌, ◌<◌, ◌≤◌, ◌+◌, ◌==◌, ℕ, zero, suc, List, [], ◌∷◌, ◌++◌, length, take, set, Option, Some, None, IfSome, if◌then◌else◌, eq-eqb, ne_eqb, refl, sym, ap, ◌∙◌, subst, arith, length-set, length-append, get_or-set_other, get_or-set_same, slice_index_or}
 use Rattle.std.specs.Prelude.{slice_index, slice_index_or, slice_set}
-use Rattle.hm_core.proofs.Words.{fun_ext, take-append-le, take_all, set-get_or, ℕ_discrete, dite, Version, Entry, AnyUsage, calls_of, Known, Part, Move, Index, becomes, entry_of, finds, listed, next_version, publishes, word_of, row_of_part, HasRoom, IsLawfulMove, Core, Good, PartIsGood, IsBy, some_more, Row, HandState, hand_after, no_hand, SeatState, no_seat, IsAwake, Moment, any_store, any_entry, core_of, hand_at, index_of, known_with, no_row, own_part, own_view, places_of, row_at, row_with, seat_at, seat_with, site_of, IsSound, IsSoundHand}
-use Rattle.std.proofs.lemmas.Grind.{get_or-set_at}
+use Rattle.hm_core.proofs.Words.{fun_ext, take-append-le, take_all, set-get_or, ℕ_discrete, dite, Version, Entry, AnyUsage, calls_of, Known, Part, Move, Index, becomes, entry_of, finds, listed, next_version, publishes, word_of, row_of_part, HasRoom, IsLawfulMove, Core, Good, PartIsGood, IsBy, some_more, Row, HandState, hand_after, no_hand, SeatState, no_seat, IsAwake, Moment, any_store, any_entry, core_of, hand_at, index_of, known_with, no_row, own_part, own_view, places_of, row_at, row_with, seat_at, seat_with, site_of, IsSound, IsSoundHand, get_or-set_at, count_of, index_with, part_after, seen_after, applied, calls_after}
 use Rattle.hm_model.specs.Lawful.{UsageLaws}
 use Rattle.hm_moves.specs.Places.{Places, places_with, raised}
-use Rattle.hm_moves.specs.After.{count_of, index_with, part_after, seen_after}
-use Rattle.hm_moves.specs.Good.{applied}
-use Rattle.hm_moves.proofs.Histories.{calls_after}
 use Rattle.hm_moves.proofs.Heaps.{next_small, row_below}
 use Rattle.hm_moves.proofs.Finding.{entry_by, next_now}
 use Rattle.hm_moves.proofs.Steps.{good_step}

@@ -1,8 +1,7 @@
 -- The seats after the hand of one caller changed, and an entry of it was made: all else is as it was.
 use Rattle.std.proofs.Common.{◌≡◌, ◌≢◌, ◌<◌, ◌≤◌, ℕ, zero, suc, List, [], ◌∷◌, ◌++◌, length, map, take, set, Option, Some, refl, sym, ap, ◌∙◌, arith, get_or-set_other, get_or-set_same}
 use Rattle.std.specs.Prelude.{slice_get, slice_index_or, slice_set}
-use Rattle.hm_core.proofs.Words.{fun_ext, take-append-le, get_or_from_slice_get, ℕ_discrete, dite, Entry, AnyUsage, calls_of, Part, listed, view, Carries, IsBy, HandState, no_hand, SeatState, no_seat, IsAwake, Moment, core_of, hand_at, own_part, own_view, seat_at, seat_view, site_of, IsSound}
-use Rattle.hm_moves.proofs.Histories.{calls_beside}
+use Rattle.hm_core.proofs.Words.{fun_ext, take-append-le, get_or_from_slice_get, ℕ_discrete, dite, Entry, AnyUsage, calls_of, Part, listed, view, Carries, IsBy, HandState, no_hand, SeatState, no_seat, IsAwake, Moment, core_of, hand_at, own_part, own_view, seat_at, seat_view, site_of, IsSound, calls_beside}
 use Rattle.hm_core.proofs.Moments.{Awakes, seated_awake, map_at}
 
 -- a list is replaced at a place, and seen alike elsewhere

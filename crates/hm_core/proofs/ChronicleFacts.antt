@@ -2,17 +2,10 @@
 use Rattle.std.proofs.Common.{◌≡◌, ◌≢◌, ◌⊎◌, ◌<◌, ◌+◌, ℕ, zero, suc, true, false, eq-eqb, ne_eqb, List, [], ◌∷◌, ◌++◌, length, map, get_or, set, replicate, Option, Some, None, IfSome, refl, sym, ap, ◌∙◌, subst, arith, inl, inr, ⊎_elim}
 use Rattle.std.specs.Prelude.{slice_get, option_and_then}
 use Rattle.std.proofs.lemmas.Bool.{cases_Bool}
-use Rattle.hm_core.proofs.Words.{length-set, length-map, map-set, set-get_or, slice_get_within, slice_get-get_or, Name, Contents, Stored, Changed, Entry, Create, Fetch, Store, StoreIf, Refs, Numbers, PlainStore, is_same, contents_of, made_count, Stands, store_of, AllStand, is_same-self, StandsAt, same_names}
-use Rattle.std.proofs.lemmas.List.{length_push, get_or-map}
+use Rattle.hm_core.proofs.Words.{length-set, length-map, map-set, set-get_or, slice_get_within, slice_get-get_or, Name, Contents, Stored, Changed, Entry, Create, Fetch, Store, StoreIf, Refs, Numbers, PlainStore, is_same, contents_of, made_count, Stands, store_of, AllStand, is_same-self, StandsAt, same_names, length_push, get_or-map, with_changed, with_field, with_all, effect_of, store_after, other_names, contents_of-push_split, contents_of-push_other, contents_of-changed_other, made_count-push, made_count-changed, store_after-append, all_stand_append, well_made_stays, ArePlaces, IsChronicle}
 use Rattle.hm_model.specs.declared.object.Field.{Field}
 use Rattle.hm_model.specs.declared.entry.Tried.{Tried}
-use Rattle.hm_model.specs.Store.{with_changed}
-use Rattle.hm_model.specs.Effect.{with_field, with_all, effect_of}
-use Rattle.hm_model.specs.History.{store_after}
-use Rattle.hm_model.proofs.StoreFacts.{other_names, contents_of-push_split, contents_of-push_other, contents_of-changed_other, made_count-push, made_count-changed}
-use Rattle.hm_model.proofs.HistoryFacts.{store_after-append, all_stand_append, well_made_stays}
 use Rattle.hm_model.proofs.WellMade.{well_made_nil, changed_split}
-use Rattle.hm_core.specs.Chronicles.{ArePlaces, IsChronicle}
 
 -- elements of a list that one is pushed to, and of one with an element set
 get_front : {A : Type 0} (xs ys : List A) (i : ℕ) (x : A) → slice_get xs i ≡ Some x

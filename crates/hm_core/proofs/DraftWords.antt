@@ -1,9 +1,6 @@
 -- Words of a draft that name a version no more, once that is let go.
 use Rattle.std.proofs.Common.{◌≡◌, ◌<◌, ◌≤◌, ◌+◌, ℕ, zero, suc, List, [], ◌∷◌, length, get_or, set, Option, Some, None, refl, sym, ap, ◌∙◌, arith}
-use Rattle.hm_core.proofs.Words.{length-set, get_or-set_same, get_or-set_other, ℕ_discrete, dite, Known}
-use Rattle.std.proofs.lemmas.List.{ext_get_or}
-use Rattle.hm_moves.proofs.Held.{unnamed_wide}
-use Rattle.hm_moves.specs.After.{unless_named, unnamed_from, unnamed}
+use Rattle.hm_core.proofs.Words.{length-set, get_or-set_same, get_or-set_other, ℕ_discrete, dite, Known, ext_get_or, unnamed_wide, unless_named, unnamed_from, unnamed}
 
 -- words of a draft have been looked at as far as the i-th, so that none of them names a version
 pub record AreUnnamedTo (k : Known) (i : ℕ) (old new : List (Option ℕ)) : Type 0 where

@@ -1,18 +1,12 @@
 -- What the tests of a step's entry tell.
 use Rattle.std.proofs.Common.{◌≡◌, ◌↔◌, ◌<◌, ◌+◌, ◌-◌, ◌==◌, ◌&&◌, ℕ, Bool, true, false, not, eqb, eqb-true, eq-eqb, List, [], ◌∷◌, nat_lt, if◌then◌else◌, Option, Some, None, IfSome, refl, sym, ap, ◌∙◌, subst, arith}
-use Rattle.hm_core.proofs.Words.{each_some, common_steps, option_eq, Version, FIRST_NUMBER, FIRST_REFERENCE, Name, Contents, Stored, Changed, Entry, Create, Fetch, Store, StoreIf, AnyUsage, Refs, IsThere, is_same, new_contents, store_of, same_names, is_same-self, Known, Part, LoadStamp, LoadReference, LoadNumber, Act, Looks, Builds, next_version, next_name, MayLookInto, HasRoom, Reads, Turns, MayTake, IsBuilt, IsWritten, StepKind, act_of, IsAwake, IsLookable, Fits, Moment, core_of, index_of, own_part, own_view, IsSound}
-use Rattle.std.specs.Option.{option_map}
+use Rattle.hm_core.proofs.Words.{each_some, common_steps, option_eq, Version, FIRST_NUMBER, FIRST_REFERENCE, Name, Contents, Stored, Changed, Entry, Create, Fetch, Store, StoreIf, AnyUsage, Refs, IsThere, is_same, new_contents, store_of, same_names, is_same-self, Known, Part, LoadStamp, LoadReference, LoadNumber, Act, Looks, Builds, next_version, next_name, MayLookInto, HasRoom, Reads, Turns, MayTake, IsBuilt, IsWritten, StepKind, act_of, IsAwake, IsLookable, Fits, Moment, core_of, index_of, own_part, own_view, IsSound, option_map, LINK, STAMP, field_look, MayLook, AreKnown, later_contents, HoldsWhatItNeeds, HasPlace, IsPlain}
 use Rattle.std.proofs.lemmas.Bool.{ltb-true, and_from, and_parts}
 use lib.Pointwise.{pointwise}
-use Rattle.hm_shape.specs.declared.version.TheConstants.{LINK, STAMP}
 use Rattle.hm_moves.specs.declared.moving.Look.TheVariants as look
 use Rattle.hm_moves.specs.declared.moving.Build.TheVariants as build
-use Rattle.hm_moves.specs.Acts.{field_look}
-use Rattle.hm_moves.specs.Allowed.{MayLook, AreKnown}
 use Rattle.hm_core.specs.declared.step.StepKind.TheVariants.{LoadField, LoadLink, StoreOwn, Publish, LinkStore}
-use Rattle.hm_core.specs.Stepping.{later_contents, HoldsWhatItNeeds, HasPlace, IsPlain}
 use Rattle.hm_core.proofs.Moments.{only_one, look_index}
-use Rattle.hm_moves.proofs.Held.{each_some}
 
 module _ {A : Type 0} (E : A → A → Bool) where
   list_told : ((a b : A) → E a b ≡ true → a ≡ b) → (xs ys : List A) → pointwise E xs ys ≡ true → xs ≡ ys
@@ -78,11 +72,15 @@ module _ (m : Moment) (q : ℕ) where
       → IsBuilt p.hands.held p.draft.written (new_contents refs numbers)
       → Fits (core_of m) p (Publish (Create by n refs numbers))
   create_fits by n refs numbers own room name given built = (
-    (Builds (build.Publish (first_made n refs numbers)), refl, record {
-      first =
-          record { room = room; version = refl; name = name; rank = refl; stamp = refl; names = given; built = built };
-      may = tt;
-    }),
+    (
+      Builds (build.Publish (first_made n refs numbers)),
+      refl,
+      record {
+        first =
+            record { room = room; version = refl; name = name; rank = refl; stamp = refl; names = given; built = built };
+        may = tt;
+      },
+    ),
     own,
   )
 

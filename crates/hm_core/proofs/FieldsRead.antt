@@ -1,7 +1,6 @@
 -- What code reads of the fields is what the moment has that they tell.
 use Rattle.std.proofs.Common.{◌≡◌, ◌<◌, ℕ, List, length, get_or, ap, ◌∙◌, arith}
-use Rattle.std.proofs.lemmas.List.{get_or_default}
-use Rattle.hm_core.proofs.Words.{Row, HandState, no_hand, SeatState, no_seat, IsAwake, Moment, core_of, hand_at, no_row, own_part, own_view, row_at, seat_at, IsSound}
+use Rattle.hm_core.proofs.Words.{Row, HandState, no_hand, SeatState, no_seat, IsAwake, Moment, core_of, hand_at, no_row, own_part, own_view, row_at, seat_at, IsSound, get_or_default}
 use Rattle.hm_core.proofs.Moments.{awake_below}
 
 -- an element that was read is the one at any default

@@ -1,17 +1,11 @@
 -- The moment that a fresh machine tells: it is fresh, and sound.
 use Rattle.std.proofs.Common.{◌≡◌, ◌≢◌, ◌<◌, ◌≤◌, ◌-◌, ℕ, zero, suc, ne_eqb, List, [], ◌∷◌, ◌++◌, length, map, get_or, replicate, Option, Some, None, refl, sym, ap, ◌∙◌, subst, arith}
 use Rattle.std.specs.Prelude.{slice_get}
-use Rattle.hm_core.proofs.Words.{fun_ext, length-append, length-map, length-replicate, length-set, map-append, get_or-set_same, get_or-set_other, take_all, ℕ_discrete, dite, some, get_elem?, Shape, version_count, Start, Entry, AnyUsage, opening_of, Known, Part, View, Index, IsPublished, link_of, Carries, common_known, all_known, many, Row, SeatState, no_seat, HandState, fresh_hand, no_hand, Moment, any_store, any_entry, core_of, hand_at, index_of, no_row, own_part, places_of, row_at, seat_view, site_of, IsSound, IsSoundHand, creates_of, first_seats}
+use Rattle.hm_core.proofs.Words.{fun_ext, length-append, length-map, length-replicate, length-set, map-append, get_or-set_same, get_or-set_other, take_all, ℕ_discrete, dite, some, get_elem?, Shape, version_count, Start, Entry, AnyUsage, opening_of, Known, Part, View, Index, IsPublished, link_of, Carries, common_known, all_known, many, Row, SeatState, no_seat, HandState, fresh_hand, no_hand, Moment, any_store, any_entry, core_of, hand_at, index_of, no_row, own_part, places_of, row_at, seat_view, site_of, IsSound, IsSoundHand, creates_of, first_seats, get_or-replicate, starting_count, AreTrue, fresh_index, fresh_part, fresh_places, fresh_used, IsFreshHeap, IsFreshCore, numbered, numbered_at, used_first, used_other, good_fresh, first_hands, first_rows}
 use Rattle.std.proofs.lemmas.Nat.{mul-lt}
-use Rattle.std.proofs.lemmas.List.{get_or-replicate}
-use Rattle.hm_model.specs.History.{starting_count}
-use Rattle.hm_moves.specs.Chain.{AreTrue}
 use Rattle.hm_moves.specs.Places.{row_count}
-use Rattle.hm_moves.specs.Fresh.{fresh_index, fresh_part, fresh_places, fresh_used, IsFreshHeap, IsFreshCore}
 use Rattle.hm_moves.specs.FirstWords.{AreFirst}
-use Rattle.hm_moves.proofs.Fresh.{numbered, numbered_at, used_first, used_other, good_fresh}
 use Rattle.hm_moves.proofs.Places.{at_end, at_below}
-use Rattle.hm_core.specs.Firsts.{first_hands, first_rows}
 use Rattle.hm_core.proofs.FirstVersions.{opening_created}
 use Rattle.hm_moves.proofs.Placed.{versions_some}
 

@@ -1,9 +1,8 @@
 -- Tests of versions by their number, their word and their name.
 use Rattle.std.proofs.Common.{◌≡◌, ◌↔◌, ◌≤◌, ◌==◌, ◌&&◌, ◌||◌, ℕ, Bool, true, false, not, eq-eqb, eqb-true, List, [], ◌∷◌, length, Option, Some, None, IsTrue, IfSome, Contains, refl, sym, ap, ◌∙◌, subst, arith, ⊎_elim}
-use Rattle.hm_core.proofs.Words.{list_any, Version, naming_word, Name, is_same, same_names, is_same-self, Known, is_version, without, with_held, Spells, HandState, HasVersion, CanHold, holding}
+use Rattle.hm_core.proofs.Words.{list_any, Version, naming_word, Name, is_same, same_names, is_same-self, Known, is_version, without, with_held, Spells, HandState, HasVersion, CanHold, holding, contains_first, contains_here, contains_behind}
 use Rattle.std.proofs.lemmas.List.Filters.{length-filter_both}
 use Rattle.std.proofs.Math.Bool.{not-not}
-use Rattle.hm_moves.proofs.Held.{contains_first, contains_here, contains_behind}
 
 -- some element passes a test where one has what the test is of
 any_told : {A : Type 0} (test : A → Bool) (xs : List A) → list_any test xs ≡ true

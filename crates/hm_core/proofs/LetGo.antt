@@ -1,13 +1,9 @@
 -- The plain data after a caller let go of a version, and its seat was then split or joined with another.
 use Rattle.std.proofs.Common.{◌≡◌, ◌≢◌, ◌<◌, ◌≤◌, ℕ, zero, suc, true, false, List, [], ◌∷◌, ◌++◌, length, take, set, get_or, nat_lt, if◌then◌else◌, Option, None, refl, sym, ap, ◌∙◌, subst, arith, append-nil, length-set, length-append, get_or-set_other, get_or-set_same}
 use Rattle.std.specs.Prelude.{slice_set}
-use Rattle.hm_core.proofs.Words.{set-get_or, map-append, map-set, slice_get-get_or, ℕ_discrete, dite, some, some-injective, get_elem?, Entry, AnyUsage, Known, Part, view, Core, Good, Leads, here, let_go, cut, met, HandState, no_hand, SeatState, no_seat, IsAwake, Moment, any_store, any_entry, core_of, hand_at, own_part, own_view, seat_at, seat_view, site_of, IsSound, IsSoundHand}
-use Rattle.std.proofs.lemmas.List.{length-take-le}
-use Rattle.hm_moves.specs.After.{letting}
-use Rattle.hm_moves.specs.Good.{longer}
+use Rattle.hm_core.proofs.Words.{set-get_or, map-append, map-set, slice_get-get_or, ℕ_discrete, dite, some, some-injective, get_elem?, Entry, AnyUsage, Known, Part, view, Core, Good, Leads, here, let_go, cut, met, HandState, no_hand, SeatState, no_seat, IsAwake, Moment, any_store, any_entry, core_of, hand_at, own_part, own_view, seat_at, seat_view, site_of, IsSound, IsSoundHand, length-take-le, letting, longer, hand_letting}
 use Rattle.hm_moves.proofs.Places.{set_here, set_else}
 use Rattle.hm_moves.proofs.Safe.{good_always}
-use Rattle.hm_core.specs.Hands.{hand_letting}
 use Rattle.hm_core.specs.Taking.{core_letting, seat_letting, split_off, joined_to}
 use Rattle.hm_core.proofs.Moments.{awake_below, view_at}
 use Rattle.hm_core.proofs.FieldsRead.{hand_read, seat_read, other_read}

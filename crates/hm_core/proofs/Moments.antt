@@ -1,12 +1,8 @@
 -- Seats and callers of the running machine, as the state has them.
 use Rattle.std.proofs.Common.{◌≡◌, ◌<◌, ℕ, zero, suc, List, [], ◌∷◌, map, Option, Some, None, IfSome, refl, sym, ap, ◌∙◌, subst, arith, ◌↔◌, IsNone, ◌≤◌}
 use Rattle.std.specs.Prelude.{slice_get}
-use native.Mathlib.Decide.{dec_le}
-use Rattle.hm_core.proofs.Words.{no_seat, slice_get_past, slice_get-get_or, get_or_from_slice_get, some, some-injective, get_elem?, AnyUsage, Known, Part, View, IsPublished, PartIsGood, Version, made_count, store_of, MayLookInto, next_name, IsAwake, IsLookable, SeatState, Moment, core_of, index_of, own_part, own_view, places_of, seat_view, site_of, IsSound, dite}
-use mathlib.Core.Option.{some-ne-none}
-use Rattle.hm_shape.specs.Words.{word_count}
+use Rattle.hm_core.proofs.Words.{no_seat, slice_get_past, slice_get-get_or, get_or_from_slice_get, some, some-injective, get_elem?, AnyUsage, Known, Part, View, IsPublished, PartIsGood, Version, made_count, store_of, MayLookInto, next_name, IsAwake, IsLookable, SeatState, Moment, core_of, index_of, own_part, own_view, places_of, seat_view, site_of, IsSound, dite, dec_le, some-ne-none, word_count, made_count-legal}
 use Rattle.hm_moves.specs.Places.{IsFit}
-use Rattle.hm_model.proofs.HistoryFacts.{made_count-legal}
 use Rattle.hm_moves.proofs.Placed.{rank_small}
 use Rattle.hm_moves.proofs.Heaps.{look_published}
 

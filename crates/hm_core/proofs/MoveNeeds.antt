@@ -2,15 +2,9 @@
 use Rattle.std.proofs.Common.{◌≡◌, ◌<◌, ◌≤◌, ◌+◌, ◌*◌, ◌^◌, ℕ, zero, suc, List, [], ◌∷◌, ◌++◌, length, get_or, set, Option, Some, None, IfSome, refl, sym, ap, ◌∙◌, subst, arith}
 use Rattle.std.specs.Prelude.{slice_index}
 use Rattle.std.proofs.Math.Nat.{mul-le-mul_right, mul-le-mul_left}
-use Rattle.hm_core.proofs.Words.{Shape, version_count, Name, Contents, Stored, Changed, Entry, Fetch, Store, StoreIf, contents_of, IsThere, Stands, store_of, AllStand, all_stand_parts, Known, Part, LoadReference, Act, Looks, Builds, Move, Index, link_of, becomes, entry_of, finds, listed, next_version, publishes, word_of, row_of_part, HasHand, HasRoom, MayHold, MayLookInto, Reads, Turns, MayTake, IsLawfulMove, some_more, HasNextStamp, Row, HandState, hand_after, SeatState, IsAwake, Moment, any_store, any_entry, core_of, hand_at, index_of, known_with, own_part, own_view, row_at, row_with, seat_with, IsSound}
-use Rattle.hm_model.specs.Effect.{caller_of}
-use Rattle.hm_moves.specs.declared.moving.Look.TheVariants.{LoadLink}
+use Rattle.hm_core.proofs.Words.{Shape, version_count, Name, Contents, Stored, Changed, Entry, Fetch, Store, StoreIf, contents_of, IsThere, Stands, store_of, AllStand, all_stand_parts, Known, Part, LoadReference, Act, Looks, Builds, Move, Index, link_of, becomes, entry_of, finds, listed, next_version, publishes, word_of, row_of_part, HasHand, HasRoom, MayHold, MayLookInto, Reads, Turns, MayTake, IsLawfulMove, some_more, HasNextStamp, Row, HandState, hand_after, SeatState, IsAwake, Moment, any_store, any_entry, core_of, hand_at, index_of, known_with, own_part, own_view, row_at, row_with, seat_with, IsSound, caller_of, LoadLink, lookup, where_zero, name_of, CanPublish, CanFollow, IsOwnWord}
 use Rattle.hm_moves.specs.declared.moving.Build.TheVariants.{StoreOwn, Publish, LinkStore}
-use Rattle.hm_moves.specs.Chain.{lookup}
-use Rattle.hm_moves.specs.Acts.{where_zero}
 use Rattle.hm_moves.proofs.Heaps.{present_at}
-use Rattle.hm_core.specs.Chronicles.{name_of}
-use Rattle.hm_core.specs.Hands.{CanPublish, CanFollow, IsOwnWord}
 use Rattle.hm_core.proofs.Moments.{part_good, awake_below, known_fit, look_index}
 use Rattle.hm_core.proofs.FieldsRead.{read_at, hand_read, seat_read, row_read}
 use Rattle.hm_core.proofs.AfterMove.{after, sound_after, fresh_next, fresh_below, entry_own}

@@ -1,8 +1,6 @@
 -- One step more is played.
 use Rattle.std.proofs.Common.{◌<◌, ◌+◌, ℕ, List, [], ◌∷◌, ◌++◌, length, get_or, take, refl, sym}
-use Rattle.std.proofs.lemmas.List.{take_more}
-use Rattle.hm_core.proofs.Words.{Step, Moment, Plays}
-use Rattle.hm_core.specs.Playing.{Answers}
+use Rattle.hm_core.proofs.Words.{Step, Moment, Plays, take_more, Answers}
 
 -- the last of some steps
 plays_last : (m l n : Moment) (steps : List Step) (step : Step) → Plays m steps l → Answers l step n

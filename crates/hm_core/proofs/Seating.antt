@@ -1,8 +1,7 @@
 -- Which seats are there, and whom they carry.
 use Rattle.std.proofs.Common.{◌≡◌, ◌≢◌, ◌↔◌, ◌<◌, ◌+◌, ℕ, zero, suc, Bool, true, List, [], ◌∷◌, length, map, take, Some, None, refl, sym, ap, ◌∙◌, arith}
 use Rattle.std.specs.Prelude.{slice_get}
-use Rattle.hm_core.proofs.Words.{Entry, AnyUsage, Create, common_name, opening_of, side_entries, side_names, Part, View, Note, IsAwake, MayMeet, SeatState, Moment, core_of, own_part, own_view, IsSound, length-map, length-append}
-use Rattle.hm_core.specs.Stepping.{IsAlone}
+use Rattle.hm_core.proofs.Words.{Entry, AnyUsage, Create, common_name, opening_of, side_entries, side_names, Part, View, Note, IsAwake, MayMeet, SeatState, Moment, core_of, own_part, own_view, IsSound, length-map, length-append, IsAlone}
 use Rattle.hm_core.proofs.Moments.{awake_seated, awake_below, seated_awake, own_seat, view_at, view_from, only_one}
 
 lone : (xs : List ℕ) (q : ℕ) → slice_get xs 0 ≡ Some q → length xs ≡ 1 → xs ≡ q ∷ []

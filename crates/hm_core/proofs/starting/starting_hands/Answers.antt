@@ -1,7 +1,6 @@
 -- The first hand has published all, and the others none.
 use Rattle.std.proofs.Common.{◌≡◌, ◌+◌, ◌-◌, ◌++◌, ◌∷◌, [], ℕ, replicate, ap, ◌∙◌, arith}
-use Rattle.std.proofs.lemmas.List.{replicate_more}
-use Rattle.hm_core.proofs.Words.{fresh_hand}
+use Rattle.hm_core.proofs.Words.{fresh_hand, replicate_more}
 use Rattle.hm_core.proofs.starting.starting_hands.Goals as goal
 
 pub loop-init : goal.loop-init

@@ -1,7 +1,6 @@
 -- What the object holds is written at its place.
 use Rattle.std.proofs.Common.{ap, sym}
-use Rattle.hm_core.proofs.Words.{store_of, ChronicleState, StandsAt}
-use Rattle.hm_moves.proofs.Held.{from_some}
+use Rattle.hm_core.proofs.Words.{store_of, ChronicleState, StandsAt, from_some}
 use Rattle.hm_core.proofs.ChronicleFacts.{chronicle_changed}
 use Rattle.hm_core.proofs.chronicle.Chronicle.change.Goals as goal
 

@@ -1,8 +1,7 @@
 -- The held versions are filtered.
 use Rattle.std.proofs.Common.{rules, ◌≡◌, not, filter, sym, ◌∙◌}
 use Rattle.std.proofs.lemmas.Fn.{filter_same}
-use Rattle.hm_core.proofs.Words.{is_version, without, holding}
-use Rattle.hm_core.specs.Hands.{hand_by}
+use Rattle.hm_core.proofs.Words.{is_version, without, holding, hand_by}
 use Rattle.hm_core.proofs.hand.Hand.leave.Goals as goal
 
 pub returns-in-Some : goal.returns-in-Some

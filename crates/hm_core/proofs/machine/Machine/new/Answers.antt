@@ -1,15 +1,17 @@
 -- A fresh machine is sound.
 use Rattle.std.proofs.Common.{◌≡◌, List, [], length, refl, sym, ap, ◌∙◌, subst, arith}
-use Rattle.hm_core.proofs.Words.{Entry, AllStand, all_known, many, Moment, IsSound, ChronicleState, creates_of}
+use Rattle.hm_core.proofs.Words.{Entry, AllStand, all_known, many, Moment, IsSound, ChronicleState, creates_of, IsFreshMachine}
 use Rattle.hm_model.proofs.Openings.{opening_stands}
-use Rattle.hm_core.specs.Firsts.{IsFreshMachine}
 use Rattle.hm_core.proofs.FirstVersions.{common_last, opening_created}
 use Rattle.hm_core.proofs.FirstMoment.{first_sound, first_fresh, moment_is}
 use Rattle.hm_core.proofs.machine.Machine.new.Goals as goal
 
 pub starting_index-requires : goal.starting_index-requires
-starting_index-requires c = omega (arith, ap length (c.as_slice-firsts.ensures.value ∙ c.in_ok-versions.ensures),
-    many c.args.start c.in_ok-words.ensures.first.sized)
+starting_index-requires c = omega (
+  arith,
+  ap length (c.as_slice-firsts.ensures.value ∙ c.in_ok-versions.ensures),
+  many c.args.start c.in_ok-words.ensures.first.sized,
+)
 
 pub starting_chronicle-requires-clause-stand : goal.starting_chronicle-requires-clause-stand
 starting_chronicle-requires-clause-stand c =
@@ -19,12 +21,19 @@ starting_chronicle-requires-clause-stand c =
     (opening_stands c.args.start c.in_ok-words.ensures.first.sized)
 
 pub overflow_cast-firsts : goal.overflow_cast-firsts
-overflow_cast-firsts c = omega (arith, ap length (c.as_slice-firsts.ensures.value ∙ c.in_ok-versions.ensures),
-    many c.args.start c.in_ok-words.ensures.first.sized, c.args.shape.versions_fit)
+overflow_cast-firsts c = omega (
+  arith,
+  ap length (c.as_slice-firsts.ensures.value ∙ c.in_ok-versions.ensures),
+  many c.args.start c.in_ok-words.ensures.first.sized,
+  c.args.shape.versions_fit,
+)
 
 pub starting_hands-requires : goal.starting_hands-requires
-starting_hands-requires c = omega (arith, ap length (c.as_slice-firsts.ensures.value ∙ c.in_ok-versions.ensures),
-    many c.args.start c.in_ok-words.ensures.first.sized)
+starting_hands-requires c = omega (
+  arith,
+  ap length (c.as_slice-firsts.ensures.value ∙ c.in_ok-versions.ensures),
+  many c.args.start c.in_ok-words.ensures.first.sized,
+)
 
 pub invariant_of-result : goal.invariant_of-result
 invariant_of-result c =

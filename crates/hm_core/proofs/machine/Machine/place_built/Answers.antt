@@ -1,8 +1,7 @@
 -- The version on whose link another is hung is known, and lies in the Table.
 use Rattle.std.proofs.Common.{subst}
-use Rattle.hm_core.proofs.Words.{IsThere, store_of, own_part, IsSound}
+use Rattle.hm_core.proofs.Words.{IsThere, store_of, own_part, IsSound, MayBuild}
 use Rattle.hm_moves.specs.declared.moving.Build.{Build}
-use Rattle.hm_moves.specs.Allowed.{MayBuild}
 use Rattle.hm_core.proofs.Moments.{look_index, known_fit}
 use Rattle.hm_core.proofs.machine.Machine.place_built.Goals as goal
 

@@ -1,8 +1,6 @@
 -- What is looked into is known, and lies in the Table.
 use Rattle.std.proofs.Common.{sym, subst}
-use Rattle.hm_core.proofs.Words.{Version, IsThere, store_of, Known, Act, MayTake, own_part, IsSound}
-use Rattle.hm_shape.specs.Versions.{IsVersionOf}
-use Rattle.hm_moves.specs.Acts.{looked_at}
+use Rattle.hm_core.proofs.Words.{Version, IsThere, store_of, Known, Act, MayTake, own_part, IsSound, IsVersionOf, looked_at}
 use Rattle.hm_core.proofs.Moments.{look_index, known_fit}
 use Rattle.hm_core.proofs.machine.Machine.place_of.Goals as goal
 

@@ -1,6 +1,5 @@
 use Rattle.std.proofs.Common.{subst}
-use Rattle.hm_moves.specs.Safe.{IsSafe}
-use Rattle.hm_core.proofs.Words.{Moment, any_store, any_entry, core_of, site_of}
+use Rattle.hm_core.proofs.Words.{Moment, any_store, any_entry, core_of, site_of, IsSafe}
 use Rattle.hm_core.specs.Tables.{moment_of}
 use Rattle.hm_moves.proofs.Safe.{safe_good}
 use Rattle.hm_core.proofs.machine.Machine.store.Goals as goal
