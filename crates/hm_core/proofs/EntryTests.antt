@@ -1,6 +1,6 @@
 -- What the tests of a step's entry tell.
 use Rattle.std.proofs.Common.{◌≡◌, ◌↔◌, ◌<◌, ◌+◌, ◌-◌, ◌==◌, ◌&&◌, ℕ, Bool, true, false, not, eqb, eqb-true, eq-eqb, List, [], ◌∷◌, nat_lt, if◌then◌else◌, Option, Some, None, IfSome, refl, sym, ap, ◌∙◌, subst, arith}
-use Rattle.hm_core.proofs.Words.{each_some, common_steps, option_eq, Version, FIRST_NUMBER, FIRST_REFERENCE, Name, Contents, Stored, Changed, Entry, Create, Fetch, Store, StoreIf, AnyUsage, Refs, IsThere, is_same, new_contents, store_of, same_names, is_same-self, Known, Part, LoadStamp, LoadReference, LoadNumber, Act, Looks, Builds, next_version, next_name, MayLookInto, HasRoom, Reads, Turns, MayTake, IsBuilt, IsWritten, StepKind, act_of, IsAwake, IsLookable, Fits, Moment, core_of, index_of, own_part, own_view, IsSound, option_map, LINK, STAMP, field_look, MayLook, AreKnown, later_contents, HoldsWhatItNeeds, HasPlace, IsPlain}
+use Rattle.hm_core.proofs.Words.{each_some, common_steps, option_eq, Version, first_number, first_reference, Name, Contents, Stored, Changed, Entry, Create, Fetch, Store, StoreIf, AnyUsage, Refs, IsThere, is_same, new_contents, store_of, same_names, is_same-self, Known, Part, LoadStamp, LoadReference, LoadNumber, Act, Looks, Builds, next_version, next_name, MayLookInto, HasRoom, Reads, Turns, MayTake, IsBuilt, IsWritten, StepKind, act_of, IsAwake, IsLookable, Fits, Moment, core_of, index_of, own_part, own_view, IsSound, option_map, link_at, stamp_at, field_look, MayLook, AreKnown, later_contents, HoldsWhatItNeeds, HasPlace, IsPlain}
 use Rattle.std.proofs.lemmas.Bool.{ltb-true, and_from, and_parts}
 use lib.Pointwise.{pointwise}
 use Rattle.hm_moves.specs.declared.moving.Look.TheVariants as look
@@ -113,12 +113,12 @@ module _ (m : Moment) (q : ℕ) where
   -- only where the next version is built so
   pub fits_link : (v : Version) (k : Known) (e : Entry) → index_of m.known v.0 ≡ Some k
       → Fits (core_of m) p (LinkStore v e)
-      → (x : Contents) × Turns Known' p k x e × IsWritten p.draft.written LINK 0
+      → (x : Contents) × Turns Known' p k x e × IsWritten p.draft.written link_at 0
       × IsBuilt p.hands.held p.draft.written x
   fits_link v k e is (a, e_is, may) = go (later_contents k e) (sym (link_act v k e is) ∙ e_is)
     where
       go : (o : Option Contents) → linked e k o ≡ Some a
-          → (x : Contents) × Turns Known' p k x e × IsWritten p.draft.written LINK 0
+          → (x : Contents) × Turns Known' p k x e × IsWritten p.draft.written link_at 0
           × IsBuilt p.hands.held p.draft.written x
       go None one = absurd (cc)
       go (Some x) one =
@@ -146,9 +146,9 @@ module _ (m : Moment) (q : ℕ) where
           (subst (MayTake Known' Any p) (sym same) may).reads,
     )
 
-    field_may : (k : Known) (i : ℕ) (s t : Bool) → nat_lt i FIRST_NUMBER ≡ t → MayLookInto p k → 0 < i → i < 16
-        → MayLook Known' Any p (if s then LoadStamp k else if t then LoadReference k (i - FIRST_REFERENCE)
-        else LoadNumber k (i - FIRST_NUMBER))
+    field_may : (k : Known) (i : ℕ) (s t : Bool) → nat_lt i first_number ≡ t → MayLookInto p k → 0 < i → i < 16
+        → MayLook Known' Any p (if s then LoadStamp k else if t then LoadReference k (i - first_reference)
+        else LoadNumber k (i - first_number))
     field_may k i true t e look positive below = record { look = look; word = tt; reads = tt; may = tt }
     field_may k i false true e look positive below =
         let low = ltb-true i 6 e in record { look = look; word = omega arith; reads = tt; may = tt }
@@ -162,7 +162,7 @@ module _ (m : Moment) (q : ℕ) where
       Looks (field_look k i),
       ap (λ (x : Version). option_map (λ at. Looks (field_look at i)) (index_of m.known x.0)) (sym same)
           ∙ rw (look_index m sound q awake k look) refl,
-      field_may k i (i == STAMP) (nat_lt i FIRST_NUMBER) refl look positive below,
+      field_may k i (i == stamp_at) (nat_lt i first_number) refl look positive below,
     )
     plain_fits (StoreOwn i word) needs (room, below) plain =
         (Builds (build.StoreOwn i word), refl, record { below = below; room = room; named = needs })
@@ -170,7 +170,7 @@ module _ (m : Moment) (q : ℕ) where
 
     -- an entry that turns the contents fits where the next version is built so
     pub link_fits : (v : Version) (k : Known) (e : Entry) (x : Contents) → index_of m.known v.0 ≡ Some k
-        → IsLookable p v → HasRoom p → Turns Known' p k x e → IsWritten p.draft.written LINK 0
+        → IsLookable p v → HasRoom p → Turns Known' p k x e → IsWritten p.draft.written link_at 0
         → IsBuilt p.hands.held p.draft.written x → Fits (core_of m) p (LinkStore v e)
     link_fits v k e x is look room turns link built = (
       Builds (build.LinkStore k (later_made k x) (Some e)),

@@ -1,6 +1,6 @@
 -- The versions of the starting objects, and the entries that make them.
 use Rattle.std.proofs.Common.{◌≡◌, ◌<◌, ◌+◌, ◌-◌, ℕ, List, [], ◌∷◌, ◌++◌, length, get_or, take, drop, replicate, Option, Some, None, refl, sym, ap, ◌∙◌, subst, arith, append_assoc, append-nil}
-use Rattle.hm_core.proofs.Words.{length-append, map-append, Name, Start, Entry, Create, Refs, Numbers, PlainStore, Stands, new_contents, store_of, AllStand, common_name, opening_of, side_entries, side_names, all_stand_parts, Known, all_known, common_known, HasNextStamp, AddsSide, creates_of, drop_more, get_or-append-add, take-append-drop, starting_name, side_known, starting_known, sides_length}
+use Rattle.hm_core.proofs.Words.{length-append, map-append, Name, Start, Entry, Create, Refs, Numbers, PlainStore, Stands, new_contents, store_of, AllStand, opening_of, side_entries, side_names, all_stand_parts, Known, all_known, common_known, HasNextStamp, AddsSide, creates_of, drop_more, get_or-append-add, take-append-drop, starting_name, side_known, starting_known, sides_length}
 use Rattle.hm_moves.proofs.FirstWords.{first_known, first_name}
 
 -- side objects are added one after another

@@ -13,7 +13,7 @@ pub use native.Mathlib.Decide.{ℕ_discrete, dec_le}
 pub use Rattle.hm_shape.specs.Versions.{version_count, IsVersionOf}
 pub use Rattle.hm_shape.specs.Words.{naming_word, word_count}
 pub use Rattle.hm_shape.specs.declared.shape.Shape.{Shape}
-pub use Rattle.hm_shape.specs.declared.version.TheConstants.{FIRST_NUMBER, FIRST_REFERENCE, LINK, STAMP}
+pub use Rattle.hm_shape.specs.Layout.{first_number, first_reference, link_at, stamp_at}
 pub use Rattle.hm_shape.specs.declared.version.Version.{Version}
 pub use Rattle.hm_model.proofs.HistoryFacts.{all_stand_parts, made_count-legal, store_after-append, all_stand_append, well_made_stays}
 pub use Rattle.hm_model.proofs.StoreFacts.{is_same-self, same_names, other_names, contents_of-push_split, contents_of-push_other, contents_of-changed_other, made_count-push, made_count-changed}

@@ -1,16 +1,16 @@
 -- What the running machine keeps of a caller: its draft, and the versions that it may look into.
 use Rattle.std.specs.Prelude.{◌≡◌, ℕ, ◌+◌, ◌<◌, ◌≤◌, ◌^◌, List, [], ◌∷◌, ◌++◌, length, Option, None, IfSome, Contains}
 use Rattle.hm_shape.specs.declared.version.Version.{Version}
-use Rattle.hm_shape.specs.declared.version.TheConstants.{VERSION_WORDS}
+use Rattle.hm_shape.specs.Layout.{version_words}
 use Rattle.hm_moves.specs.declared.part.Known.{Known}
 use Rattle.hm_moves.specs.declared.part.Draft.{Draft}
 use Rattle.hm_moves.specs.declared.part.Hands.{Hands}
-use Rattle.hm_moves.specs.declared.part.TheConstants.{MOST_HELD}
 use Rattle.hm_moves.specs.declared.moving.Build.TheVariants.{StoreOwn}
 use Rattle.hm_moves.specs.declared.moving.Act.{Act}
 use Rattle.hm_moves.specs.declared.moving.Act.TheVariants.{Builds}
 use Rattle.hm_moves.specs.declared.moving.Move.{Move}
 use Rattle.hm_moves.specs.Acts.{listed, publishes}
+use Rattle.hm_moves.specs.Allowed.{most_held}
 use Rattle.hm_moves.specs.After.{count_of, draft_after, hands_after, nothing_written, unnamed, without}
 
 -- a hand is a draft and versions, with room for so many own ones
@@ -33,9 +33,9 @@ no_hand = hand_by 0 0 0 nothing_written [] [] []
 
 -- there is memory for all held and all own versions, and one version's words
 pub record IsLaidOut (h : HandState) (for_held for_own : ℕ) : Type 0 where
-  pub held : MOST_HELD ≤ for_held
+  pub held : most_held ≤ for_held
   pub own : h.room ≤ for_own
-  pub words : length h.draft.written ≡ VERSION_WORDS
+  pub words : length h.draft.written ≡ version_words
 
 -- one of some versions has this number
 abbrev pub HasVersion : List Known → Version → Type 0
@@ -58,7 +58,7 @@ publishing h fresh = record h {
 
 -- one version more can be held
 abbrev pub CanHold : HandState → Known → Type 0
-CanHold h k = length h.hands.held < MOST_HELD
+CanHold h k = length h.hands.held < most_held
 
 -- and one more published
 abbrev pub CanPublish : HandState → Known → Type 0
@@ -66,7 +66,7 @@ CanPublish h k = (length h.hands.own < h.room) × (h.draft.used + 1 < 2 ^ 32)
 
 -- an own word that is stored is one of a version's
 abbrev pub IsOwnWord : Act → Type 0
-IsOwnWord (Builds (StoreOwn i word)) = i < VERSION_WORDS
+IsOwnWord (Builds (StoreOwn i word)) = i < version_words
 IsOwnWord act = Unit {0}
 
 -- a hand can follow a move that found x, which names this version

@@ -3,7 +3,7 @@ use Rattle.std.specs.Prelude.{◌≡◌, ◌≢◌, ℕ, ◌+◌, ◌<◌, true,
 use mathlib.Core.Option.{some}
 use lib.ListN.{get_elem?}
 use Rattle.hm_shape.specs.declared.version.Version.{Version}
-use Rattle.hm_shape.specs.declared.version.TheConstants.{VERSION_WORDS}
+use Rattle.hm_shape.specs.Layout.{version_words}
 use Rattle.hm_model.specs.declared.object.Contents.{Contents}
 use Rattle.hm_model.specs.declared.entry.Tried.TheVariants.{Stored}
 use Rattle.hm_model.specs.declared.entry.Entry.{Entry}
@@ -125,8 +125,8 @@ module _ {U : Type 0} where
 
   -- a place is left for the caller's next version, and the word is one of the kind's
   abbrev pub HasPlace : Part U → StepKind → Type 0
-  HasPlace p (LoadField v i scan) = (0 < i) × (i < VERSION_WORDS)
-  HasPlace p (StoreOwn i word) = HasRoom p × (i < VERSION_WORDS)
+  HasPlace p (LoadField v i scan) = (0 < i) × (i < version_words)
+  HasPlace p (StoreOwn i word) = HasRoom p × (i < version_words)
   HasPlace p (Publish entry) = HasRoom p
   HasPlace p (LinkStore v entry) = HasRoom p
   HasPlace p kind = Unit {0}

@@ -4,7 +4,7 @@ ghost use Rattle.hm_model.specs.declared.entry.Entry.TheVariants.{Create};
 ghost use Rattle.hm_moves.specs.Acts.{word_of as moved_word, becomes as word_after, entry_of, publishes as published_by, finds as found_by, field_look as field_load};
 ghost use Rattle.hm_moves.specs.Acts.{build_word, looked_at, looked_word};
 ghost use Rattle.hm_moves.specs.Allowed.{IsWordOf, MayBuild, MayTake};
-ghost use Rattle.hm_shape.specs.declared.version.TheConstants.{VERSION_WORDS};
+ghost use Rattle.hm_shape.specs.Layout.{version_words};
 ghost use Rattle.hm_core.specs.Stepping.{act_of as act_by, first_known as first_of, later_known as later_of, HasPlace};
 
 use crate::contents::{new_contents, with_all, with_field};
@@ -95,7 +95,7 @@ fn word_looked_at(look: &Look) -> (Version, u32)
     requires { IsWordOf look.now }
     ensures version { result.0 ≡ (looked_at look.now).version }
     ensures word { result.1 ≡ looked_word look.now }
-    ensures below { result.1 < VERSION_WORDS }
+    ensures below { result.1 < version_words }
 {
     match *look {
         Look::LoadStamp { at } => (at.version, STAMP),
@@ -212,7 +212,7 @@ impl Machine {
         ensures value { moved_word (own_part self.now caller) act.now
             ≡ word_at self.now.shape result.0 result.1 }
         ensures version { IsVersionOf self.now.shape result.0 }
-        ensures word { result.1 < VERSION_WORDS }
+        ensures word { result.1 < version_words }
     {
         let _shape = &self.shape;
         match *act {
@@ -231,7 +231,7 @@ impl Machine {
         ensures value { build_word (own_part self.now caller) build.now
             ≡ word_at self.now.shape result.0 result.1 }
         ensures version { IsVersionOf self.now.shape result.0 }
-        ensures word { result.1 < VERSION_WORDS }
+        ensures word { result.1 < version_words }
     {
         let _shape = &self.shape;
         match *build {

@@ -1,6 +1,6 @@
 //! Which entries fit a step: what its caller has written, and the version that it looks into.
 ghost use Rattle.std.specs.Prelude.{◌≡◌, ◌≢◌, ◌+◌, ◌<◌, ◌↔◌, ℕ, Bool, Some, None, IsTrue, IfSome, slice_index, slice_index_or};
-ghost use Rattle.hm_shape.specs.declared.version.TheConstants.{FIRST_NUMBER, FIRST_REFERENCE};
+ghost use Rattle.hm_shape.specs.Layout.{first_number, first_reference};
 ghost use Rattle.hm_model.specs.declared.object.Contents.{Contents};
 ghost use Rattle.hm_core.specs.declared.step.StepKind.TheVariants.{LoadLink, Publish, LinkStore};
 ghost use Rattle.hm_model.specs.declared.entry.Tried.TheVariants.{Changed};
@@ -145,7 +145,7 @@ impl Machine {
     fn are_spelled(&self, caller: u32, refs: &[Option<Name>; 4]) -> bool
         requires { caller < self.now.shape.callers }
         ensures { IsTrue result ↔ ((i : ℕ) → i < 4
-            → (w : ℕ) × IsWritten (own_part self.now caller).draft.written (FIRST_REFERENCE + i) w
+            → (w : ℕ) × IsWritten (own_part self.now caller).draft.written (first_reference + i) w
             × Spells (own_part self.now caller).hands.held w (slice_index_or refs.now i None)) }
     {
         for i in 0..4u32 {
@@ -161,7 +161,7 @@ impl Machine {
     fn are_numbers(&self, caller: u32, numbers: &[u64; 10]) -> bool
         requires { caller < self.now.shape.callers }
         ensures { IsTrue result ↔ ((i : ℕ) → i < 10
-            → IsWritten (own_part self.now caller).draft.written (FIRST_NUMBER + i)
+            → IsWritten (own_part self.now caller).draft.written (first_number + i)
             (slice_index numbers.now i)) }
     {
         for i in 0..10u32 {

@@ -1,7 +1,7 @@
 //! What the machine keeps of a caller: its draft, and the versions that it may look into.
 ghost use Rattle.std.specs.Prelude.{◌≡◌, ◌≤◌, ◌<◌, ◌↔◌, ◌+◌, ◌^◌, ◌==◌, ◌&&◌, Some, None, IfOk, IfSome, IsTrue, Contains, length, slice_set, slice_index_or};
 ghost use Rattle.std.specs.List.{list_any};
-ghost use Rattle.hm_shape.specs.declared.version.TheConstants.{VERSION_WORDS};
+ghost use Rattle.hm_shape.specs.Layout.{version_words};
 ghost use Rattle.hm_shape.specs.Words.{naming_word};
 ghost use Rattle.hm_model.specs.Store.{is_same};
 ghost use Rattle.hm_moves.specs.declared.part.Known.{Known};
@@ -9,10 +9,13 @@ ghost use Rattle.hm_moves.specs.After.{is_naming, unless_named, unnamed};
 
 use crate::cuts::publishes;
 use hm_model::Name;
-use hm_moves::{Act, Build, Known, MOST_HELD, Move};
+use hm_moves::{Act, Build, Known, Move};
 use hm_shape::{FIRST_NUMBER, FIRST_REFERENCE, LINK, VERSION_WORDS, Version};
 use std::alloc::{AllocError, Global};
 use std::marker::Model;
+
+/// The most versions that a caller holds when it takes one more.
+pub(crate) const MOST_HELD: u64 = 512;
 
 /// A caller's draft, and the versions that it holds, published, and left behind. There is room for as many own ones
 /// as a region has places.
@@ -82,7 +85,7 @@ impl Hand {
 
     /// Word `i`, where it is written.
     pub fn word(&self, i: u32) -> Option<u64>
-        requires { i < VERSION_WORDS }
+        requires { i < version_words }
         ensures { result ≡ slice_index_or self.now.draft.written i None }
     {
         self.written[i as usize]

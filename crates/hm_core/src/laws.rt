@@ -1,9 +1,10 @@
 //! What holds after every list of steps.
-ghost use Rattle.std.specs.Prelude.{◌≡◌, ◌<◌, ◌≤◌, ℕ, IfOk, OnErr, OnOk, length, take};
+ghost use Rattle.std.specs.Prelude.{◌≡◌, ◌≤◌, IfOk, OnErr, OnOk};
 ghost use Rattle.hm_model.specs.History.{starting_count};
 ghost use Rattle.hm_core.specs.Running.{any_store, any_entry, core_of, site_of};
 ghost use Rattle.hm_moves.specs.Ends.{ChainsEnd};
-ghost use Rattle.hm_core.specs.Playing.{Answers, Plays, PlaysFresh};
+ghost use Rattle.hm_core.specs.Taking.{IsAdmitted};
+ghost use Rattle.hm_core.specs.Playing.{Answers, Plays, PlaysFresh, Stops, StopsFresh};
 ghost use Rattle.hm_moves.specs.Safe.{ComesFromFresh, IsSafe, Leads};
 
 use crate::machine::{Machine, Memory};
@@ -14,14 +15,14 @@ use std::alloc::Global;
 
 impl Machine {
     /// Takes steps one after another. A step that is refused changes nothing, and the list goes on with the next one.
-    /// Where memory runs out at a step, those before it were answered, and nothing else was done.
+    /// Where memory runs out at a step, whose conditions all hold, those before it were answered, and nothing else was
+    /// done.
     ///
     /// Behind each published version its chain ends, after at most as many links as the heap has versions: until
     /// regions are used again, no cycle is done.
     pub fn apply_all(&mut self, steps: &[Step]) -> Result<(), Memory>
         ensures played { OnOk result (Plays self.old steps.now self.new) }
-        ensures memory { OnErr result ((i : ℕ) × (i < length steps.now)
-            × Plays self.old (take i steps.now) self.new) }
+        ensures memory { OnErr result (Stops self.old steps.now self.new) }
         ensures leads { Leads any_store any_entry (core_of self.old) (core_of self.new) }
         ensures safe { IsSafe (site_of self.new) (core_of self.new) }
         ensures ends { ChainsEnd self.new.shape (core_of self.new).heap 0 }
@@ -35,8 +36,7 @@ impl Machine {
     // Answers steps one after another, as long as there is memory.
     fn play(&mut self, steps: &[Step]) -> Result<(), Memory>
         ensures played { OnOk result (Plays self.old steps.now self.new) }
-        ensures memory { OnErr result ((i : ℕ) × (i < length steps.now)
-            × Plays self.old (take i steps.now) self.new) }
+        ensures memory { OnErr result (Stops self.old steps.now self.new) }
         ensures leads { Leads any_store any_entry (core_of self.old) (core_of self.new) }
         ensures site { site_of self.new ≡ site_of self.old }
     {
@@ -49,7 +49,8 @@ impl Machine {
     // Takes or refuses one step.
     fn answer(&mut self, step: &Step) -> Result<(), Memory>
         ensures answered { OnOk result (Answers self.old step.now self.new) }
-        ensures memory { OnErr result (self.new ≡ self.old) }
+        ensures unchanged { OnErr result (self.new ≡ self.old) }
+        ensures memory { OnErr result (IsAdmitted self.old step.now) }
         ensures leads { Leads any_store any_entry (core_of self.old) (core_of self.new) }
         ensures site { site_of self.new ≡ site_of self.old }
     {
@@ -60,24 +61,26 @@ impl Machine {
     }
 }
 
-/// The machine after a list of steps, from a fresh one on. A step that is refused changes nothing. The start has at
-/// most as many objects as a region has versions. Answers `Memory` where there is none for the machine, or for a step.
+/// The machine after a list of steps, from a fresh one on. A step that is refused changes nothing. Where memory runs
+/// out at a step, whose conditions all hold, it is the machine after those before it, with `Memory` beside it. The start
+/// has at most as many objects as a region has versions. Answers `Memory` where there is none for the machine itself.
 pub fn machine_after(
     alloc: Global,
     shape: Shape,
     start: Start,
     steps: &[Step],
-) -> Result<Machine, Memory>
+) -> Result<(Machine, Result<(), Memory>), Memory>
     requires { starting_count start ≤ shape.versions }
-    ensures played { IfOk result (PlaysFresh steps.now) }
-    ensures safe { IfOk result (λ machine. IsSafe (site_of machine) (core_of machine)) }
-    ensures ends { IfOk result (λ machine. ChainsEnd machine.shape (core_of machine).heap 0) }
-    ensures led { IfOk result (λ machine.
-        ComesFromFresh any_store any_entry (site_of machine) (core_of machine)) }
-    ensures shape { IfOk result (λ machine. machine.shape ≡ shape) }
-    ensures start { IfOk result (λ machine. machine.start ≡ start) }
+    ensures played { IfOk result (λ after. OnOk after.1 (PlaysFresh steps.now after.0)) }
+    ensures memory { IfOk result (λ after. OnErr after.1 (StopsFresh steps.now after.0)) }
+    ensures safe { IfOk result (λ after. IsSafe (site_of after.0) (core_of after.0)) }
+    ensures ends { IfOk result (λ after. ChainsEnd after.0.shape (core_of after.0).heap 0) }
+    ensures led { IfOk result (λ after.
+        ComesFromFresh any_store any_entry (site_of after.0) (core_of after.0)) }
+    ensures shape { IfOk result (λ after. after.0.shape ≡ shape) }
+    ensures start { IfOk result (λ after. after.0.start ≡ start) }
 {
     let mut machine = Machine::new(alloc, shape, start)?;
-    machine.apply_all(steps)?;
-    Ok(machine)
+    let played = machine.apply_all(steps);
+    Ok((machine, played))
 }

@@ -1,12 +1,12 @@
 //! The running machine: plain data that tell a moment of the heap, and what can be read off them.
 ghost use Rattle.std.specs.Prelude.{◌≡◌, ◌+◌, ◌^◌, ◌<◌, ◌≤◌, ◌↔◌, IsNone, length, slice_get, slice_index_or, option_copied, None, IsTrue, IfSome};
-ghost use Rattle.hm_shape.specs.declared.version.TheConstants.{VERSION_WORDS};
+ghost use Rattle.hm_shape.specs.Layout.{version_words};
 
 use crate::chronicle::Chronicle;
-use crate::hand::Hand;
+use crate::hand::{Hand, MOST_HELD};
 use crate::seat::Seat;
 use hm_model::{Contents, Name, Start};
-use hm_moves::{Known, MOST_HELD};
+use hm_moves::Known;
 use hm_shape::{Shape, VERSION_WORDS, Version};
 use std::alloc::{AllocError, Global};
 use std::marker::Model;
@@ -210,7 +210,7 @@ impl Machine {
     // Word `i` of a caller's next version, where it is written.
     pub(crate) fn written(&self, caller: u32, i: u32) -> Option<u64>
         requires caller { caller < self.now.shape.callers }
-        requires word { i < VERSION_WORDS }
+        requires word { i < version_words }
         ensures { result ≡ slice_index_or (own_part self.now caller).draft.written i None }
     {
         self.hand(caller).word(i)

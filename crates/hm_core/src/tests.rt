@@ -167,9 +167,10 @@ fn a_list_of_steps_is_taken_from_a_fresh_machine_on(rt: HostRuntime) -> Result<(
         step(1, StepKind::Split),
         step(0, StepKind::StoreOwn { i: 6, word: 5 }),
     ];
-    let mut machine = machine_after(rt.alloc(), shape, start, &steps)
+    let (mut machine, played) = machine_after(rt.alloc(), shape, start, &steps)
         .ok()
         .ok_or("memory")?;
+    assert_eq!(rt; played, Ok(()));
     assert_eq!(rt; machine.store().len(), 2);
     assert_eq!(rt; machine.word(21), Some(1));
     assert_eq!(rt; machine.word(41), Some(5));

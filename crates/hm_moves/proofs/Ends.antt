@@ -1,5 +1,5 @@
 -- Chains end, since ranks rise along links.
-use Rattle.std.proofs.Common.{◌≡◌, ◌≤◌, ◌<◌, ◌+◌, ℕ, zero, suc, Some, refl, sym, ap, ◌∙◌, subst, arith}
+use Rattle.std.proofs.Common.{◌≡◌, ◌≤◌, ◌<◌, ◌+◌, ℕ, zero, suc, Some, refl, ◌∙◌, subst, arith}
 use Rattle.hm_moves.proofs.Words.{Shape, naming_word, Known, Heap, row_count, total, rank_limit, IsPublished, link_of, IsForward, KeepsChains, KeepsRanks}
 use Rattle.hm_moves.specs.Ends.{ChainsEnd, EndsAfter, Links}
 use Rattle.hm_moves.proofs.Placed.{published_once, made_small}

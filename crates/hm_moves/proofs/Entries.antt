@@ -1,7 +1,6 @@
 -- Entries that stand in the present store, and what they change there.
-use Rattle.std.proofs.Common.{◌≡◌, ◌≢◌, ◌+◌, List, get_or, IfSome, Option, Some, None, refl, sym, ap, ◌∙◌, subst}
+use Rattle.std.proofs.Common.{◌≡◌, ◌≢◌, ◌+◌, List, get_or, IfSome, Option, Some, None, refl, sym, ap, ◌∙◌}
 use Rattle.hm_moves.proofs.Words.{Name, Contents, Field, Number, Refer, Stored, Changed, Entry, Create, Fetch, Store, StoreIf, PlainStore, contents_of, IsThere, AreThere, with_changed, caller_of, Stands, FieldStands, effect_of, with_field, with_all, contents_of-changed, contents_of-changed_other, there_contents, field_rises, Known, Part, AreKnown, IsKnownField, Reads, Turns}
-use Rattle.std.specs.Option.{option_map}
 
 -- a changed object has what the change makes of it
 changed_here : (f : Contents → Contents) (store : PlainStore) (n m : Name) (x y : Contents) → n ≡ m

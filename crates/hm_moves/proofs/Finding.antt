@@ -1,6 +1,6 @@
 -- What an act finds, what it publishes, and by whom its entry is.
 use Rattle.std.proofs.Common.{◌≡◌, ℕ, zero, suc, List, slice_index, Option, Some, None, IfSome, refl, sym, ap, ◌∙◌, subst, arith}
-use Rattle.hm_moves.proofs.Words.{word_at, Name, Stored, Changed, Entry, Create, Fetch, Store, StoreIf, PlainStore, caller_of, store_of, Known, Part, Act, Looks, Builds, LoadStamp, LoadReference, LoadNumber, LoadLink, StoreOwn, Publish, LinkStore, Index, IsPublished, with_one, lookup}
+use Rattle.hm_moves.proofs.Words.{word_at, Name, Stored, Changed, Entry, Create, Fetch, Store, StoreIf, PlainStore, caller_of, store_of, Known, Part, Act, Looks, Builds, LoadStamp, LoadReference, LoadNumber, LoadLink, StoreOwn, Publish, LinkStore, Index, IsPublished, lookup}
 use Rattle.hm_moves.proofs.Words.{Refers, IsLinked, reference_at, Heap, next_version, word_of, entry_of, publishes, finds, want_of, looked_at, index_with, HasRoom, MayLookInto, Reads, Turns, MayTake, TurnsBy, HeapIsGood, PartIsGood, IsReference, IsLink, Found}
 use Rattle.hm_moves.proofs.Histories.{IsBy}
 use Rattle.hm_moves.proofs.Placed.{published_here, published_more}

@@ -1,5 +1,5 @@
 -- The words of a fresh Table are laid one after another, and say what the starting objects hold.
-use Rattle.std.proofs.Common.{◌≡◌, ◌<◌, ◌≤◌, ◌+◌, ◌-◌, ◌*◌, ℕ, zero, suc, List, [], ◌∷◌, ◌++◌, length, map, get_or, replicate, Option, Some, None, IfSome, All, refl, sym, ap, ◌∙◌, subst, arith, append-nil, append_assoc, suc-mul}
+use Rattle.std.proofs.Common.{◌≡◌, ◌<◌, ◌≤◌, ◌+◌, ◌-◌, ◌*◌, ℕ, zero, suc, List, [], ◌∷◌, ◌++◌, length, map, get_or, replicate, Option, Some, None, IfSome, All, refl, sym, ap, ◌∙◌, subst, arith, append-nil, append_assoc}
 use Rattle.hm_moves.proofs.Words.{slice_get, flat_map, mul-lt, length-append, length-map, length-replicate, get_or_append_left, get_or-append-add, get_or-map, get_or-replicate, map-append, All-nil, All-cons, All-append, All-get_or, flat_map-append, get_or_from_slice_get, slice_get-get_or, slice_get_within, Shape, version_count, reply_at, roles_at, word_at, word_count, Name}
 use Rattle.hm_moves.proofs.Words.{Start, Refs, Numbers, IsSized, new_contents, side_names, starting_count, starting_name, IsSizedStart, Known, IsPublished, Refers, words_at, reference_at, only_to, row_count, starting_known, side_known, common_known, all_known, fresh_index, AreFirst, LaysSide, count_word, first_words, head_words, known_words, laid_words}
 use Rattle.hm_moves.proofs.Fresh.{AreNumbered, numbered_at, numbered, many, known_at}

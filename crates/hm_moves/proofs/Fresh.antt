@@ -1,5 +1,5 @@
 -- A fresh machine is good.
-use Rattle.std.proofs.Common.{◌≡◌, ◌≢◌, ◌<◌, ◌≤◌, ◌+◌, ◌*◌, ◌==◌, ℕ, zero, suc, false, cond, is_some, eq-eqb, ne_eqb, List, [], ◌∷◌, ◌++◌, map, length, replicate, All, Option, Some, None, IfSome, Contains, if◌then◌else◌, refl, sym, ap, ◌∙◌, subst, arith, ⊎_elim, append-nil, append_assoc, suc-mul, IsSome}
+use Rattle.std.proofs.Common.{◌≡◌, ◌≢◌, ◌<◌, ◌≤◌, ◌+◌, ◌*◌, ◌==◌, ℕ, zero, suc, false, cond, is_some, eq-eqb, ne_eqb, List, [], ◌∷◌, ◌++◌, map, length, replicate, All, Option, Some, None, IfSome, Contains, if◌then◌else◌, refl, sym, ap, ◌∙◌, subst, arith, ⊎_elim, append-nil, append_assoc, IsSome}
 use Rattle.hm_moves.proofs.Words.{length-append, map-append, nat_tests, common_steps, slice_get, list_any, mul-lt, get_or_from_slice_get, slice_get_past, slice_get_within, slice_get-get_or, All-nil, All-cons, All-head, All-tail, ℕ_discrete, dite, Shape, Version, IsAt, word_count, Name, Contents, Start, Entry, Create, Numbers, IsSized, PlainStore, contents_of, caller_of}
 use Rattle.hm_moves.proofs.Words.{new_contents, effect_of, store_after, store_of, common_name, opening_of, side_count, side_entries, side_names, starting_count, starting_name, IsSizedStart, is_same-self, is_same-other, there_contents, store_after-append, Known, Site, Index, IsPublished, AreTrue, AreChained, IsLinked}
 use Rattle.hm_moves.proofs.Words.{link_of, Heap, ArePlaced, row_count, total, AreRanked, HasHead, IsOwn, Places, Begins, AreBelow, HeapIsGood, PartIsGood, Core, Good, AreApart, starting_known, side_known, common_known, all_known, fresh_index, fresh_used, fresh_part, IsFreshCore, fresh_places}

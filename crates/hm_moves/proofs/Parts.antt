@@ -1,5 +1,5 @@
 -- What a move leaves of the caller that makes it, and of the others.
-use Rattle.std.proofs.Common.{◌≡◌, ◌≢◌, ◌⊎◌, ◌||◌, ◌<◌, ◌+◌, ◌*◌, ℕ, zero, suc, true, List, [], ◌∷◌, ◌++◌, length, set, slice_index, slice_set, Option, Some, None, IfSome, Contains, refl, sym, ap, ◌∙◌, subst, arith, inl, ⊎_elim, append-nil, length-set, get_or-set_same, get_or-set_other, append_assoc, false, ne_eqb, Bool, ◌||◌}
+use Rattle.std.proofs.Common.{◌≡◌, ◌≢◌, ◌⊎◌, ◌||◌, ◌<◌, ◌+◌, ◌*◌, ℕ, zero, suc, true, List, [], ◌∷◌, ◌++◌, length, set, slice_index, slice_set, Option, Some, None, IfSome, Contains, refl, sym, ap, ◌∙◌, subst, arith, inl, append-nil, length-set, get_or-set_same, get_or-set_other, append_assoc, false, ne_eqb, Bool, ◌||◌}
 use Rattle.hm_moves.proofs.Words.{Contains-push, Contains-append_left, Shape, Version, IsAt, version_at, word_at, Name, Entry, PlainStore, calls_of, opening_of, IsLawful, Known, Part, Act, Looks, Builds, Look, LoadStamp, LoadReference, LoadNumber, LoadLink, list_any, StoreOwn, Publish, LinkStore, Move, Heap, row_of, Places, IsOwn, places_with, IsPublished, Index, next_version, word_of}
 use Rattle.hm_moves.proofs.Words.{becomes, entry_of, publishes, finds, listed, looked_at, looked_word, heap_after, index_with, row_of_part, count_of, is_naming, written_with, without, with_held, hands_after, part_after, seen_after, is_version, IsWritten, Names, HasRoom, IsWritable, MayLookInto, MayTake, IsWordOf, Begins, HeapIsGood, PartIsGood, HasCalls, AreIndexed, AreApart, published_of}
 use Rattle.hm_moves.proofs.Histories.{IsBy, calls_after, calls_beside, begins_more, begins_on, begins_self, lawful_before}

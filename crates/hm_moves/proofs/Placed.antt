@@ -1,6 +1,6 @@
 -- Where versions lie, how they are counted, and one version more.
-use Rattle.std.proofs.Common.{◌≡◌, ◌≢◌, ◌⊎◌, ◌<◌, ◌≤◌, ◌+◌, ◌*◌, ℕ, zero, suc, eq-eqb, ne_eqb, List, length, slice_index, slice_set, Option, Some, None, refl, sym, ap, ◌∙◌, subst, arith, ⊎_elim, get_or-set_other, get_or-set_same, suc-mul, mul-le-mul_right, lt_of_not-le, IsSome, mul-le-mul_left, mul-suc, mul_assoc}
-use Rattle.hm_moves.proofs.Words.{nat_tests, common_steps, eqb_tells, ℕ_discrete, dec_le, dite, Shape, Version, IsVersionOf, word_at, word_count, Name, Known, Index, IsPublished, with_one, words_at, Refers, Follows, HasContents, AreTrue, reference_at, IsSizedVersion, ArePlaced, row_count, total, raised, Places, rank_limit, AreRanked, places_with}
+use Rattle.std.proofs.Common.{◌≡◌, ◌≢◌, ◌⊎◌, ◌<◌, ◌≤◌, ◌+◌, ◌*◌, ℕ, zero, suc, eq-eqb, ne_eqb, List, length, slice_index, slice_set, Option, Some, None, refl, sym, ap, ◌∙◌, subst, arith, ⊎_elim, get_or-set_other, get_or-set_same, suc-mul, mul-le-mul_right, lt_of_not-le, mul-le-mul_left, mul-suc, mul_assoc}
+use Rattle.hm_moves.proofs.Words.{nat_tests, common_steps, eqb_tells, dec_le, Shape, Version, IsVersionOf, word_at, word_count, Name, Known, Index, IsPublished, with_one, words_at, Refers, Follows, HasContents, AreTrue, reference_at, IsSizedVersion, ArePlaced, row_count, total, raised, Places, rank_limit, AreRanked, places_with}
 
 -- a version that is published last is published
 pub published_here : (index : Index) (k : Known) → IsPublished (with_one index k) k

@@ -1,7 +1,7 @@
 -- Acts of a caller, by groups: the word that each moves, and what it makes, publishes and finds.
 use Rattle.std.specs.Prelude.{ℕ, zero, suc, ◌+◌, ◌-◌, ◌==◌, nat_lt, List, [], ◌∷◌, Option, Some, None, if◌then◌else◌}
 use Rattle.hm_shape.specs.declared.version.Version.{Version}
-use Rattle.hm_shape.specs.declared.version.TheConstants.{FIRST_NUMBER, FIRST_REFERENCE, LINK, STAMP}
+use Rattle.hm_shape.specs.Layout.{first_number, first_reference, link_at, stamp_at}
 use Rattle.hm_shape.specs.Versions.{version_at}
 use Rattle.hm_shape.specs.Words.{word_at, naming_word}
 use Rattle.hm_model.specs.declared.entry.Entry.{Entry}
@@ -30,9 +30,9 @@ where_zero (Some a) (suc v) = None
 -- a word of a version is loaded as its stamp, a reference or a number
 abbrev pub field_look : Known → ℕ → Look
 field_look at i =
-    if i == STAMP then LoadStamp at
-    else if nat_lt i FIRST_NUMBER then LoadReference at (i - FIRST_REFERENCE)
-    else LoadNumber at (i - FIRST_NUMBER)
+    if i == stamp_at then LoadStamp at
+    else if nat_lt i first_number then LoadReference at (i - first_reference)
+    else LoadNumber at (i - first_number)
 
 -- a load is of a version
 abbrev pub looked_at : Look → Known
@@ -43,10 +43,10 @@ looked_at (LoadLink at want) = at
 
 -- and of one of its words
 abbrev pub looked_word : Look → ℕ
-looked_word (LoadStamp at) = STAMP
-looked_word (LoadReference at i) = FIRST_REFERENCE + i
-looked_word (LoadNumber at i) = FIRST_NUMBER + i
-looked_word (LoadLink at want) = LINK
+looked_word (LoadStamp at) = stamp_at
+looked_word (LoadReference at i) = first_reference + i
+looked_word (LoadNumber at i) = first_number + i
+looked_word (LoadLink at want) = link_at
 
 -- a load of a link may want an entry
 abbrev pub want_of : Look → Option Entry
@@ -69,8 +69,8 @@ next_version p = version_at p.site.shape p.number p.draft.region p.draft.used
 -- a step that builds moves a word of the next version, or the link on which that is hung
 abbrev pub build_word : {U : Type 0} → Part U → Build → ℕ
 build_word p (StoreOwn i word) = word_at p.site.shape (next_version p) i
-build_word p (Publish fresh) = word_at p.site.shape (next_version p) LINK
-build_word p (LinkStore at fresh entry) = word_at p.site.shape at.version LINK
+build_word p (Publish fresh) = word_at p.site.shape (next_version p) link_at
+build_word p (LinkStore at fresh entry) = word_at p.site.shape at.version link_at
 
 -- an exchange puts the fresh version into a link of 0, and leaves any other
 abbrev pub link_after : Known → ℕ → ℕ

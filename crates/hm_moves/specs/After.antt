@@ -1,7 +1,7 @@
 -- What a move leaves: the heap, the caller's draft and hands, and what its seat has seen.
 use Rattle.std.specs.Prelude.{ℕ, ◌+◌, ◌==◌, ◌&&◌, ◌||◌, not, nat_le, nat_lt, Bool, List, [], ◌∷◌, ◌++◌, slice_set, Option, Some, None, filter, replicate, if◌then◌else◌}
 use Rattle.std.specs.List.{list_any}
-use Rattle.hm_shape.specs.declared.version.TheConstants.{FIRST_NUMBER, FIRST_REFERENCE, LINK, VERSION_WORDS}
+use Rattle.hm_shape.specs.Layout.{first_number, first_reference, link_at, version_words}
 use Rattle.hm_shape.specs.Words.{naming_word}
 use Rattle.hm_model.specs.declared.entry.Entry.{Entry}
 use Rattle.hm_moves.specs.declared.part.Known.{Known}
@@ -38,7 +38,7 @@ heap_after h p act x = record {
 
 -- link and references of a version name versions
 abbrev pub is_naming : ℕ → Bool
-is_naming i = (i == LINK) || (nat_le FIRST_REFERENCE i && nat_lt i FIRST_NUMBER)
+is_naming i = (i == link_at) || (nat_le first_reference i && nat_lt i first_number)
 
 -- a word that names a version which is let go no longer counts as written
 abbrev pub unless_named : Known → ℕ → Option ℕ → Option ℕ
@@ -58,7 +58,7 @@ unnamed (Some k) written = unnamed_from k 0 written
 
 -- no word of a new draft is written
 abbrev pub nothing_written : List (Option ℕ)
-nothing_written = replicate VERSION_WORDS None
+nothing_written = replicate version_words None
 
 -- a step that builds counts the word that it stores as written
 abbrev pub built_with : List (Option ℕ) → Build → List (Option ℕ)

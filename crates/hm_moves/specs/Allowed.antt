@@ -1,6 +1,6 @@
 -- Which moves a caller may make, by what it has seen and knows itself.
 use Rattle.std.specs.Prelude.{◌≡◌, ◌≢◌, ℕ, ◌+◌, ◌<◌, ◌≤◌, ◌⊎◌, true, List, length, slice_index, slice_index_or, Option, Some, None, IsSome, IfSome, Contains, All}
-use Rattle.hm_shape.specs.declared.version.TheConstants.{FIRST_NUMBER, FIRST_REFERENCE, LINK, STAMP, VERSION_WORDS}
+use Rattle.hm_shape.specs.Layout.{first_number, first_reference, link_at, stamp_at, version_words}
 use Rattle.hm_shape.specs.Words.{naming_word}
 use Rattle.hm_model.specs.declared.object.Name.{Name}
 use Rattle.hm_model.specs.declared.object.Contents.{Contents}
@@ -15,7 +15,6 @@ use Rattle.hm_model.specs.History.{store_of, create_count}
 use Rattle.hm_model.specs.Lawful.{MayMake}
 use Rattle.hm_moves.specs.declared.part.Known.{Known}
 use Rattle.hm_moves.specs.declared.part.Part.{Part}
-use Rattle.hm_moves.specs.declared.part.TheConstants.{MOST_HELD}
 use Rattle.hm_moves.specs.declared.moving.Look.{Look}
 use Rattle.hm_moves.specs.declared.moving.Look.TheVariants.{LoadStamp, LoadReference, LoadNumber, LoadLink}
 use Rattle.hm_moves.specs.declared.moving.Build.{Build}
@@ -45,11 +44,11 @@ Spells held w (Some n) =
 -- a draft is built where its words 1 to 15 are written and are these contents
 pub record IsBuilt (held : List Known) (written : List (Option ℕ)) (x : Contents) : Type 0 where
   pub sized : IsSized x.refs x.numbers
-  pub stamp : IsWritten written STAMP x.stamp
+  pub stamp : IsWritten written stamp_at x.stamp
   pub refs : (i : ℕ) → i < 4
-      → (w : ℕ) × IsWritten written (FIRST_REFERENCE + i) w × Spells held w (reference_at x i)
+      → (w : ℕ) × IsWritten written (first_reference + i) w × Spells held w (reference_at x i)
   pub numbers : (i : ℕ) → i < 10
-      → IsWritten written (FIRST_NUMBER + i) (slice_index x.numbers i)
+      → IsWritten written (first_number + i) (slice_index x.numbers i)
 
 -- references are known where each is none, or a name that is
 abbrev pub AreKnown : (Name → Type 0) → Refs → Type 0
@@ -64,6 +63,10 @@ IsKnownField known (Refer i value) = (i < 4) × IfSome value known
 pub record IsGiven (known : Name → Type 0) (refs : Refs) (numbers : List ℕ) : Type 0 where
   pub names : AreKnown known refs
   pub sized : IsSized refs numbers
+
+-- a caller that takes one more version holds fewer than so many
+abbrev pub most_held : ℕ
+most_held = 512
 
 -- a load is of one of the words that an object has
 abbrev pub IsWordOf : Look → Type 0
@@ -87,7 +90,7 @@ module _ {U : Type 0} where
 
   -- the caller may hold one version more
   abbrev pub HasHand : Part U → Type 0
-  HasHand p = length p.hands.held < MOST_HELD
+  HasHand p = length p.hands.held < most_held
 
   -- so many cycles a caller has seen done: none until there is a collector
   abbrev pub done_seen : Part U → ℕ
@@ -95,7 +98,7 @@ module _ {U : Type 0} where
 
   -- words of the caller's next version are written, from one on
   abbrev pub AreWrittenFrom : Part U → ℕ → Type 0
-  AreWrittenFrom p first = (j : ℕ) → first ≤ j → j < VERSION_WORDS
+  AreWrittenFrom p first = (j : ℕ) → first ≤ j → j < version_words
       → IsSome (slice_index_or p.draft.written j None)
 
   -- an entry is the caller's own, on the object of a version
@@ -149,12 +152,12 @@ module _ {U : Type 0} where
     pub version : k.version ≡ next_version p
     pub name : k.name ≡ at.name
     pub rank : k.rank ≡ at.rank + 1
-    pub link : IsWritten p.draft.written LINK 0
+    pub link : IsWritten p.draft.written link_at 0
     pub built : IsBuilt p.hands.held p.draft.written k.contents
 
   -- a word may be stored where it names a held version, or none
   pub record IsWritable (p : Part U) (i word : ℕ) : Type 0 where
-    pub below : i < VERSION_WORDS
+    pub below : i < version_words
     pub room : HasRoom p
     pub named : is_naming i ≡ true → Names p.hands.held word
 

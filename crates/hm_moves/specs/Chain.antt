@@ -1,7 +1,7 @@
 -- Versions in the words of the Table: which are published, what their words say, and how links chain them.
 use Rattle.std.specs.Prelude.{◌≡◌, ℕ, zero, suc, ◌+◌, ◌<◌, ◌≤◌, ◌==◌, List, slice_index, slice_index_or, Option, Some, None, if◌then◌else◌}
 use Rattle.hm_shape.specs.declared.shape.Shape.{Shape}
-use Rattle.hm_shape.specs.declared.version.TheConstants.{FIRST_NUMBER, FIRST_REFERENCE, LINK, STAMP}
+use Rattle.hm_shape.specs.Layout.{first_number, first_reference, link_at, stamp_at}
 use Rattle.hm_shape.specs.Words.{word_at, naming_word}
 use Rattle.hm_model.specs.declared.object.Name.{Name}
 use Rattle.hm_model.specs.declared.object.Contents.{Contents}
@@ -31,7 +31,7 @@ words_at s words k i = slice_index words (word_at s k.version i)
 
 -- a version has a link
 abbrev pub link_of : Shape → List ℕ → Known → ℕ
-link_of s words k = words_at s words k LINK
+link_of s words k = words_at s words k link_at
 
 -- a word refers to an object where it names a published version of it, and to none where it is 0
 abbrev pub Refers : Index → ℕ → Option Name → Type 0
@@ -45,11 +45,11 @@ reference_at x i = slice_index_or x.refs i None
 
 -- the words of a version have its contents where each says the same
 pub record HasContents (s : Shape) (index : Index) (words : List ℕ) (k : Known) : Type 0 where
-  pub stamp : words_at s words k STAMP ≡ k.contents.stamp
+  pub stamp : words_at s words k stamp_at ≡ k.contents.stamp
   pub refs : (i : ℕ) → i < 4
-      → Refers index (words_at s words k (FIRST_REFERENCE + i)) (reference_at k.contents i)
+      → Refers index (words_at s words k (first_reference + i)) (reference_at k.contents i)
   pub numbers : (i : ℕ) → i < 10
-      → words_at s words k (FIRST_NUMBER + i) ≡ slice_index k.contents.numbers i
+      → words_at s words k (first_number + i) ≡ slice_index k.contents.numbers i
 
 -- words and index are true where each published version has its contents
 abbrev pub AreTrue : Shape → List ℕ → Index → Type 0

@@ -4,7 +4,7 @@ use Rattle.std.specs.List.{list_any}
 use mathlib.Core.Option.{some}
 use lib.ListN.{get_elem?}
 use Rattle.hm_shape.specs.declared.shape.Shape.{Shape}
-use Rattle.hm_shape.specs.declared.version.TheConstants.{VERSION_WORDS}
+use Rattle.hm_shape.specs.Layout.{version_words}
 use Rattle.hm_shape.specs.Versions.{version_at}
 use Rattle.hm_shape.specs.Words.{word_at, word_count}
 use Rattle.hm_model.specs.declared.object.Start.{Start}
@@ -55,7 +55,7 @@ pub record IsDrafting (s : Shape) (q : ℕ) (d : Draft) (held : List Known) (h :
   pub region : d.region < s.regions
   pub to : d.region ≡ h.places.to q
   pub used : d.used ≡ h.places.used (row_of s q d.region)
-  pub wide : length d.written ≡ VERSION_WORDS
+  pub wide : length d.written ≡ version_words
   pub written : d.used < s.versions → (j w : ℕ) → IsWritten d.written j w
       → slice_index h.words (word_at s (version_at s q d.region d.used) j) ≡ w
   pub named : (j w : ℕ) → is_naming j ≡ true → IsWritten d.written j w → Names held w

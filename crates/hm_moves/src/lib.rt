@@ -48,5 +48,5 @@ mod starting;
 mod tests;
 
 pub use moving::{Act, Build, Look, Move};
-pub use part::{Calls, Cycle, Draft, Hands, Known, MOST_HELD, Part, Site, View};
+pub use part::{Calls, Cycle, Draft, Hands, Known, Part, Site, View};
 pub use starting::first_words;

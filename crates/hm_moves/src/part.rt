@@ -3,9 +3,6 @@ use hm_model::{Contents, Entry, Name, Start};
 use hm_shape::{Shape, Version};
 use std::collections::LinkedList;
 
-/// The most versions that a caller holds when it takes one more.
-pub const MOST_HELD: u64 = 512;
-
 /// What all seats of one heap agree on.
 #[derive(Clone, Copy)]
 pub struct Site<U> {

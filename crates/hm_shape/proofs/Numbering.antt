@@ -4,7 +4,7 @@ use Rattle.std.proofs.lemmas.Nat.{div-mul-add, mod-mul-add, div-add-mod', div_be
 use Rattle.std.proofs.Math.Nat.{div-div-eq-div-mul, mul_comm, mul_assoc}
 use Rattle.hm_shape.specs.declared.shape.Shape.{Shape}
 use Rattle.hm_shape.specs.declared.version.Version.{Version}
-use Rattle.hm_shape.specs.declared.version.TheConstants.{VERSION_WORDS}
+use Rattle.hm_shape.specs.Layout.{version_words}
 use Rattle.hm_shape.specs.Words.{word_at}
 use Rattle.hm_shape.specs.Versions.{IsVersionOf, IsAt, owner_of, region_of, place_of}
 
@@ -67,7 +67,7 @@ place_of-at shape version owner region place at =
     ∙ mod-mul-add (owner * shape.regions + region) shape.versions place at.place_fits
 
 -- a word of the Table is one word of one version
-pub word_at-apart : (shape : Shape) (version other : Version) (i j : ℕ) → i < VERSION_WORDS → j < VERSION_WORDS → word_at shape version i ≡ word_at shape other j → (version ≡ other) × (i ≡ j)
+pub word_at-apart : (shape : Shape) (version other : Version) (i j : ℕ) → i < version_words → j < version_words → word_at shape version i ≡ word_at shape other j → (version ≡ other) × (i ≡ j)
 word_at-apart shape version other i j hi hj same =
     let number : version.0 ≡ other.0 = omega arith in
     (λ k. record { 0 = number k }, omega arith)

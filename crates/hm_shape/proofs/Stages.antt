@@ -1,11 +1,10 @@
 -- Two stages with one word are one.
-use Rattle.std.proofs.Common.{◌≡◌, ◌<◌, refl, arith}
+use Rattle.std.proofs.Common.{◌≡◌, ◌<◌, ◌^◌, refl, arith}
 use Rattle.std.specs.Coded.{le_prop}
 use mathlib.Core.HLevel.{is_prop→PathP}
 use Rattle.hm_shape.specs.declared.stage.Stage.{Stage}
 use Rattle.hm_shape.specs.declared.stage.Phase.{Phase}
 use Rattle.hm_shape.specs.declared.stage.Phase.TheVariants.{Idle, Join, First, Second}
-use Rattle.hm_shape.specs.declared.stage.TheConstants.{DONE_END}
 use Rattle.hm_shape.specs.Words.{stage_word, phase_number}
 
 -- a phase's number is one of four
@@ -29,7 +28,7 @@ Stage-same s t number done phase = λ i. record {
   number = number i;
   done = done i;
   phase = phase i;
-  done_fits = is_prop→PathP (λ j. done j < DONE_END) (λ j. le_prop) s.done_fits t.done_fits i;
+  done_fits = is_prop→PathP (λ j. done j < 2 ^ 30) (λ j. le_prop) s.done_fits t.done_fits i;
 }
 
 -- two stages with one word are one

@@ -1,3 +1,4 @@
 pub mod Ranges
 pub mod Versions
+pub mod Layout
 pub mod Words

@@ -2,9 +2,7 @@
 use Rattle.std.specs.Prelude.{◌≡◌, ℕ, ◌+◌, ◌*◌, ◌^◌, ◌<◌, Option, None, Some, length, sum_by}
 use Rattle.std.specs.List.{enumerate_from}
 use Rattle.hm_shape.specs.declared.shape.Shape.{Shape}
-use Rattle.hm_shape.specs.declared.shape.TheConstants.{STAGE_AT}
 use Rattle.hm_shape.specs.declared.version.Version.{Version}
-use Rattle.hm_shape.specs.declared.version.TheConstants.{VERSION_WORDS}
 use Rattle.hm_shape.specs.declared.stage.Stage.{Stage}
 use Rattle.hm_shape.specs.declared.stage.Phase.{Phase}
 use Rattle.hm_shape.specs.declared.stage.Phase.TheVariants.{Idle, Join, First, Second}
@@ -15,10 +13,11 @@ use Rattle.hm_shape.specs.declared.roles.Roles.{Roles}
 use Rattle.hm_shape.specs.declared.roles.Role.{Role}
 use Rattle.hm_shape.specs.declared.roles.Role.TheVariants.{Free, To, Old, From}
 use Rattle.hm_shape.specs.Versions.{version_count}
+use Rattle.hm_shape.specs.Layout.{version_words}
 
 -- the first word holds the stage
 abbrev pub stage_at : ℕ
-stage_at = STAGE_AT
+stage_at = 0
 
 -- behind it a word for each caller holds its reply
 abbrev pub reply_at : ℕ → ℕ
@@ -30,11 +29,11 @@ roles_at shape caller = stage_at + 1 + shape.callers + caller
 
 -- behind the roles come the versions, 16 words each
 abbrev pub word_at : Shape → Version → ℕ → ℕ
-word_at shape version i = 2 * shape.callers + 1 + VERSION_WORDS * version.0 + i
+word_at shape version i = 2 * shape.callers + 1 + version_words * version.0 + i
 
 -- the last version's words are the last of the Table
 abbrev pub word_count : Shape → ℕ
-word_count shape = 2 * shape.callers + 1 + VERSION_WORDS * version_count shape
+word_count shape = 2 * shape.callers + 1 + version_words * version_count shape
 
 -- a word that names a version is one more than the version's number, and 0 names none
 abbrev pub naming_word : Option Version → ℕ

@@ -8,7 +8,7 @@
 //! ```
 //!
 //! A caller that has not replied yet has the word 0.
-ghost use Rattle.std.specs.Prelude.{◌≡◌, ◌≢◌, ◌%◌, ◌<◌, ◌≤◌, ◌↔◌, ◌⊎◌, Some, IfSome, IsNone};
+ghost use Rattle.std.specs.Prelude.{◌≡◌, ◌≢◌, ◌%◌, ◌^◌, ◌<◌, ◌≤◌, ◌↔◌, ◌⊎◌, Some, IfSome, IsNone};
 
 /// What a number of 1 adds to the word of a reply: a kind takes 2 bits.
 const NUMBER_UNIT: u64 = 4;
@@ -83,7 +83,7 @@ impl Reply {
         ensures packs { IfSome result (λ reply. reply_word reply ≡ word) }
         ensures back { (reply : Reply) → IsReply reply → reply_word reply ≡ word
             → result ≡ Some reply }
-        ensures none { IsNone result ↔ ((word % 4 ≡ 0) ⊎ (REPLIES_END ≤ word)) }
+        ensures none { IsNone result ↔ ((word % 4 ≡ 0) ⊎ (2 ^ 34 ≤ word)) }
         ensures exact { IsNone result
             ↔ ((reply : Reply) → IsReply reply → reply_word reply ≢ word) }
     {

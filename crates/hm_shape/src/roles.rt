@@ -6,7 +6,7 @@
 //! | 0        | region 7 | ... | region 1 | region 0 |
 //! +----------+----------+-----+----------+----------+
 //! ```
-ghost use Rattle.std.specs.Prelude.{◌≡◌, ◌≢◌, ◌<◌, ◌≤◌, ◌↔◌, Some, IfSome, IsNone};
+ghost use Rattle.std.specs.Prelude.{◌≡◌, ◌≢◌, ◌^◌, ◌<◌, ◌≤◌, ◌↔◌, Some, IfSome, IsNone};
 
 /// How many roles there are: what region 1 adds to the word for each 1 of region 0.
 const ROLES: u64 = 4;
@@ -66,7 +66,7 @@ impl Roles {
     /// The word of the roles. No others have it.
     pub fn pack(&self) -> u64
         ensures value { result ≡ roles_word self.now }
-        ensures below { result < ROLES_END }
+        ensures below { result < 2 ^ 16 }
         ensures apart { (other : Roles) → IsRoles other → roles_word other ≡ result
             → other ≡ self.now }
     {
@@ -82,7 +82,7 @@ impl Roles {
         ensures packs { IfSome result (λ roles. roles_word roles ≡ word) }
         ensures back { (roles : Roles) → IsRoles roles → roles_word roles ≡ word
             → result ≡ Some roles }
-        ensures none { IsNone result ↔ (ROLES_END ≤ word) }
+        ensures none { IsNone result ↔ (2 ^ 16 ≤ word) }
         ensures exact { IsNone result
             ↔ ((roles : Roles) → IsRoles roles → roles_word roles ≢ word) }
     {

@@ -23,7 +23,6 @@
 //! The link and each reference name a version, or none.
 ghost use Rattle.std.specs.Prelude.{◌≡◌, ◌≢◌, ◌*◌, ◌<◌, ◌≤◌, ◌↔◌, IfOk, Err};
 ghost use Rattle.hm_shape.specs.Ranges.{IsOutside, IsWithin};
-ghost use Rattle.hm_shape.specs.declared.shape.TheConstants.{LEAST_VERSIONS, MOST_CALLERS, MOST_VERSIONS, REGIONS};
 
 use crate::version::VERSION_WORDS;
 
@@ -52,9 +51,9 @@ pub struct Shape {
     pub regions: u32,
     /// How many versions each region has room for, from 4 to 65536.
     pub versions: u32,
-    pub ghost callers_fit: { IsWithin 1 MOST_CALLERS callers },
-    pub ghost regions_fit: { regions ≡ REGIONS },
-    pub ghost versions_fit: { IsWithin LEAST_VERSIONS MOST_VERSIONS versions },
+    pub ghost callers_fit: { IsWithin 1 8 callers },
+    pub ghost regions_fit: { regions ≡ 4 },
+    pub ghost versions_fit: { IsWithin 4 65536 versions },
 }
 
 /// Which number of a shape is out of its range; of several the first.
@@ -73,12 +72,12 @@ impl Shape {
     pub fn new(callers: u32, regions: u32, versions: u32) -> Result<Shape, ShapeRefused>
         ensures numbers { IfOk result (λ shape. (shape.callers ≡ callers)
             × (shape.regions ≡ regions) × (shape.versions ≡ versions)) }
-        ensures callers { (result ≡ Err ShapeRefused.Callers) ↔ IsOutside 1 MOST_CALLERS callers }
+        ensures callers { (result ≡ Err ShapeRefused.Callers) ↔ IsOutside 1 8 callers }
         ensures regions { (result ≡ Err ShapeRefused.Regions)
-            ↔ (IsWithin 1 MOST_CALLERS callers × (regions ≢ REGIONS)) }
+            ↔ (IsWithin 1 8 callers × (regions ≢ 4)) }
         ensures versions { (result ≡ Err ShapeRefused.Versions)
-            ↔ (IsWithin 1 MOST_CALLERS callers × (regions ≡ REGIONS)
-            × IsOutside LEAST_VERSIONS MOST_VERSIONS versions) }
+            ↔ (IsWithin 1 8 callers × (regions ≡ 4)
+            × IsOutside 4 65536 versions) }
     {
         if !(1..=MOST_CALLERS).contains(&callers) {
             return Err(ShapeRefused::Callers);

@@ -8,8 +8,7 @@
 //! ```
 //!
 //! Each word is that of one stage. A fresh heap has the word 0: Idle, number 0, no cycle done.
-ghost use Rattle.std.specs.Prelude.{◌≡◌, ◌<◌, Some, IfSome, IsSome};
-ghost use Rattle.hm_shape.specs.declared.stage.TheConstants.{DONE_END};
+ghost use Rattle.std.specs.Prelude.{◌≡◌, ◌<◌, ◌^◌, Some, IfSome, IsSome};
 
 /// How many phases there are: what a done count of 1 adds to the word of a stage.
 const PHASES: u64 = 4;
@@ -67,11 +66,11 @@ impl Phase {
 pub struct Stage {
     /// How many stages came before this one.
     pub number: u32,
-    /// How many cycles of collecting are done. It is below [`DONE_END`].
+    /// How many cycles of collecting are done. It is below [`DONE_END`], 2^30.
     pub done: u32,
     /// What the callers do in it.
     pub phase: Phase,
-    pub ghost done_fits: { done < DONE_END },
+    pub ghost done_fits: { done < 2 ^ 30 },
 }
 
 impl Stage {

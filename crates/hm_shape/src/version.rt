@@ -6,21 +6,21 @@ ghost use Rattle.std.specs.Prelude.{◌≡◌, ℕ, ◌*◌, ◌^◌, ◌<◌, �
 
 use crate::shape::Shape;
 
-/// How many words a version has: its link, its stamp, 4 references and 10 numbers.
-pub const VERSION_WORDS: u32 = 16;
-
 /// The word of a version that holds its link, which names the next version of the same object, or none.
 /// In the field: the forwarding pointer.
 pub const LINK: u32 = 0;
 
 /// The word of a version that holds its stamp.
-pub const STAMP: u32 = 1;
+pub const STAMP: u32 = LINK + 1;
 
 /// The word of a version that holds its first reference; the other three follow.
-pub const FIRST_REFERENCE: u32 = 2;
+pub const FIRST_REFERENCE: u32 = STAMP + 1;
 
 /// The word of a version that holds its first number; the other nine follow.
-pub const FIRST_NUMBER: u32 = 6;
+pub const FIRST_NUMBER: u32 = FIRST_REFERENCE + 4;
+
+/// How many words a version has: its link, its stamp, 4 references and 10 numbers.
+pub const VERSION_WORDS: u32 = FIRST_NUMBER + 10;
 
 /// The number of a version: of one copy of an object.
 #[derive(Clone, Copy, Debug, PartialEq, Eq, PartialOrd, Ord, Hash)]

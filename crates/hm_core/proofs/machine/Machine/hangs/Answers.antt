@@ -1,4 +1,4 @@
-use Rattle.std.proofs.Common.{◌≡◌, Some, None, sym, ◌∙◌, subst, eqb}
+use Rattle.std.proofs.Common.{◌≡◌, Some, sym, ◌∙◌, subst, eqb}
 use Rattle.hm_core.proofs.Words.{option_eq, Contents, IsBuilt, own_part}
 use Rattle.hm_core.proofs.EntryTests.{link_fits, fits_link, word_told, not_false}
 use Rattle.hm_core.proofs.machine.Machine.hangs.Goals as goal
