@@ -13,15 +13,24 @@ first_rooted start =
     (there_found (common_known start ∷ []) (common_known start) (0, (omega arith), refl))
     (All-replicate P 256 None tt)
 
--- the grip of a fresh pass names the common object's version at its first root place alone
+-- what a fresh pass has in its grip
+pub record IsFirstGrip {U : Type 0} (start : Start) (grip : Gripped U) : Type 0 where
+  pub roots : grip.roots ≡ first_roots start
+  pub hand : grip.hand ≡ []
+  pub moves : grip.moves ≡ 0
+  pub tends : grip.tends ≡ 0
+
+-- the grip of a fresh pass names the common object's version at its first root place alone, and counts from 0
 pub first_grip : {U : Type 0} (start : Start) (site : Site U) (made grip : Gripped U) (n : ℕ)
-    → made ≡ record { site = site; roots = replicate 256 None; hand = [] }
+    → made ≡ record { site = site; roots = replicate 256 None; hand = []; moves = 0; tends = 0 }
     → grip ≡ record made { roots = set made.roots 0 (Some (record { 0 = n })) } → n ≡ side_count start.sides
-    → (grip.roots ≡ first_roots start) × (grip.hand ≡ [])
-first_grip {U} start site made grip n is then number = (
-  ap (λ (x : Gripped U). x.roots) then ∙ (λ i. set (is i).roots 0 (Some (record { 0 = number i }))),
-  ap (λ (x : Gripped U). x.hand) then ∙ ap (λ (x : Gripped U). x.hand) is,
-)
+    → IsFirstGrip start grip
+first_grip {U} start site made grip n is then number = record {
+  roots = ap (λ (x : Gripped U). x.roots) then ∙ (λ i. set (is i).roots 0 (Some (record { 0 = number i })));
+  hand = ap (λ (x : Gripped U). x.hand) then ∙ ap (λ (x : Gripped U). x.hand) is;
+  moves = ap (λ (x : Gripped U). x.moves) then ∙ ap (λ (x : Gripped U). x.moves) is;
+  tends = ap (λ (x : Gripped U). x.tends) then ∙ ap (λ (x : Gripped U). x.tends) is;
+}
 
 module _ {U : Type 0} (lawful : U → PlainStore → Type 0) (allowed : U → PlainStore → Entry
     → Type 0) (g : Site U) (z : TableId)
@@ -69,7 +78,7 @@ module _ {U : Type 0} (lawful : U → PlainStore → Type 0) (allowed : U → Pl
 
   module _ (seat : Seat (Unit {0}) (Knowledge U)) (grip : Gripped U)
       (me : seat.me ≡ (knowledge (newcomer g q), [])) (table : seat.table_id ≡ z)
-      (roots : grip.roots ≡ first_roots g.start) (hand : grip.hand ≡ []) where
+      (first_is : IsFirstGrip g.start grip) where
     parts_are : seat.me.0.view.parts ≡ fresh_part g q ∷ []
     parts_are = ap (λ (m : Me (Unit {0}) (Knowledge U)). m.0.view.parts) me
 
@@ -81,9 +90,11 @@ module _ {U : Type 0} (lawful : U → PlainStore → Type 0) (allowed : U → Pl
       cells = table i;
       seen = (me i).0.view.seen;
       part = part_is i;
-      roots = roots i;
-      hand = hand i;
+      roots = first_is.roots i;
+      hand = first_is.hand i;
       steps = (me i).0.steps;
+      moves = first_is.moves i;
+      tends = first_is.tends i;
     }
 
     pub seated_fresh : (to used : ℕ) → (version_at g.shape q 0 0).0 ≡ to → used ≡ first_used g.start q

@@ -152,21 +152,23 @@ module _ {U : Type 0} (lawful : U → PlainStore → Type 0) (allowed : U → Pl
   tells_new = entered lawful allowed (sight_of s) (sight_of u) record {
     usage = refl;
     start = refl;
-    number =
-        refl;
+    number = refl;
+    span = refl;
   }
       seated.sound.sure.opened record { history = sure.history; calls = sure.calls }
       (entry_of p.number act x) between learnt.others learnt.by refl refl
 
-  module _ (roots : grip'.roots ≡ grip.roots) (hand : grip'.hand ≡ grip.hand ++ taken act x found) where
+  module _ (grip_is : grip' ≡ record grip { hand = grip.hand ++ taken act x found }) where
     after_is : t ≡ u
     after_is = λ i. record {
       cells = table i;
       seen = seen_is i;
       part = part_is i;
-      roots = roots i;
-      hand = hand i;
+      roots = (grip_is i).roots;
+      hand = (grip_is i).hand;
       steps = (learnt.is i).steps;
+      moves = (grip_is i).moves;
+      tends = (grip_is i).tends;
     }
 
     -- the pass is sound
@@ -220,11 +222,11 @@ module _ {U : Type 0} (lawful : U → PlainStore → Type 0) (allowed : U → Pl
       → IsSeated lawful allowed seat' (facts_of seat' grip') shape number to used'
       × Takes lawful allowed o (f o) x (facts_of seat' grip')
   moved named took hand used' more =
-      let roots = ap (λ (h : Gripped U). h.roots) took in
-      let hands = ap (λ (h : Gripped U). h.hand) took ∙ ap (λ (l : List Version). grip.hand ++ l) hand in (
+      let make : List Version → Gripped U = λ l. record grip { hand = grip.hand ++ l } in
+      let grip_is = took ∙ ap make hand in (
         seated_now lawful allowed seat seat' grip grip' shape number to used (f (facts_of seat grip)) x seated
-            learns table slots roots hands used' more,
+            learns table slots grip_is used' more,
         subst (λ (s : Facts U). Takes lawful allowed s (f s) x (facts_of seat' grip')) is
             (takes_now lawful allowed seat seat' grip grip' shape number to used (f (facts_of seat grip)) x
-            seated learns table slots roots hands),
+            seated learns table slots grip_is),
       )

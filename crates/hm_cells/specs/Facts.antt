@@ -31,7 +31,7 @@ pub record Made (U : Type 0) : Type 0 where
   pub site : Site U
 
 -- which cells a pass was made with, the history that it has seen, its caller, the versions at its root places
--- and in its hand, and how many steps its calls took
+-- and in its hand, how many steps its calls took, and how often it moved the cycle on and tended
 pub record Facts (U : Type 0) : Type 0 where
   pub cells : TableId
   pub seen : List Entry
@@ -39,6 +39,8 @@ pub record Facts (U : Type 0) : Type 0 where
   pub roots : List (Option Version)
   pub hand : List Version
   pub steps : ℕ
+  pub moves : ℕ
+  pub tends : ℕ
 
 -- a version is found among known ones by its number
 abbrev pub find_version : List Known → Version → Option Known
@@ -114,9 +116,11 @@ module _ {U : Type 0} where
     room = room_of s.part;
     copying = false;
     used = s.part.draft.used;
+    span = s.part.site.shape.versions;
     free = 0;
-    moves = 0;
-    tends = 0;
+    kept = 0;
+    moves = s.moves;
+    tends = s.tends;
     to_go = 0;
   }
 

@@ -1,15 +1,17 @@
 -- What contracts see of a grip.
-use Rattle.std.specs.Prelude.{List, Option}
+use Rattle.std.specs.Prelude.{ℕ, List, Option}
 use Rattle.hm_shape.specs.declared.version.Version.{Version}
 use Rattle.hm_moves.specs.declared.part.Site.{Site}
 use Rattle.hm_cells.specs.declared.knowledge.Holding.{Holding}
 use Rattle.hm_cells.specs.declared.knowledge.Opening.{Opening}
 
--- what all seats agree on, and the versions at each root place and in hand
+-- what all seats agree on, the versions at each root place and in hand, and the counts of moves and tends
 pub record Gripped (U : Type 0) : Type 0 where
   pub site : Site U
   pub roots : List (Option Version)
   pub hand : List Version
+  pub moves : ℕ
+  pub tends : ℕ
 
 module _ {U : Type 0} where
   -- a table is told what all its seats agree on

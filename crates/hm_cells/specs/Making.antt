@@ -38,6 +38,8 @@ module _ {U : Type 0} where
     roots = first_roots g.start;
     hand = [];
     steps = 0;
+    moves = 0;
+    tends = 0;
   }
 
   -- those of the callers 0 to n - 1

@@ -60,6 +60,8 @@ module _ {U : Type 0} where
     roots = grip.roots;
     hand = grip.hand;
     steps = seat.me.0.steps;
+    moves = grip.moves;
+    tends = grip.tends;
   }
 
   -- a To region begins with a version of this number

@@ -1,7 +1,7 @@
 //! What keeps a caller's versions from being let go: its root places, and its hand.
 //!
-//! The hand is for contracts alone. It is carried in the view of a seat and never stored, and changes by a
-//! load of a word that is always 0.
+//! The hand is for contracts alone, and so are the counts of moves and tends. They are carried in the view of a seat
+//! and never stored, and change by a load of a word that is always 0.
 ghost use Rattle.std.specs.Prelude.{◌≡◌};
 
 use crate::knowledge::{Holding, Opening};
@@ -23,7 +23,7 @@ impl<U> TableRule<(), Holding<U>, Opening<U>> for Freely {
 
     ghost holds = { λ _ _. Unit {0} };
 
-    ghost first = { λ o. record { site = site_of o; hand = [] } };
+    ghost first = { λ o. record { site = site_of o; hand = []; moves = 0; tends = 0 } };
 }
 
 /// The versions in hand after a step. Each call picks them.
@@ -68,6 +68,8 @@ impl<U> Model for Grip<U> {
       site = g.seat.me.0.site;
       roots = g.roots;
       hand = g.seat.me.0.hand;
+      moves = g.seat.me.0.moves;
+      tends = g.seat.me.0.tends;
     } };
 
     ghost invariant = { λ g. (g.seat.table_id ≡ g.table.shared.table_id)
@@ -81,12 +83,14 @@ impl<U> Grip<U> {
     ghost use Rattle.hm_cells.specs.Facts.{without_first};
     ghost use Rattle.hm_cells.specs.Grips.{site_of};
 
-    /// A grip with nothing in hand and no place set.
+    /// A grip with nothing in hand and no place set, whose caller has not tended.
     pub fn open(alloc: Global, opening: &Opening<U>) -> Result<Grip<U>, AllocError>
         ensures { IfOk result (λ g. g ≡ record {
           site = site_of opening.now;
           roots = replicate 256 None;
           hand = [];
+          moves = 0;
+          tends = 0;
         }) }
     {
         let (table, seat) = Table::of_words(alloc, &[0], opening)?;

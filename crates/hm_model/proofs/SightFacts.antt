@@ -20,12 +20,22 @@ module _ {U : Type 0} where
   -- the same caller, from one call to the next
   pub same_caller_then : (c d f : Sight U) → IsSameCaller c d → IsSameCaller d f → IsSameCaller c f
   same_caller_then c d f h k =
-      record { usage = k.usage ∙ h.usage; start = k.start ∙ h.start; number = k.number ∙ h.number }
+      record {
+        usage = k.usage ∙ h.usage;
+        start = k.start ∙ h.start;
+        number = k.number ∙ h.number;
+        span = k.span ∙ h.span;
+      }
 
   -- calls that do not tend, one after another
   pub untended_then : (c d f : Sight U) → IsUntended c d → IsUntended d f → IsUntended c f
   untended_then c d f h k =
-      record { copying = k.copying ∙ h.copying; moves = k.moves ∙ h.moves; tends = k.tends ∙ h.tends }
+      record {
+        copying = k.copying ∙ h.copying;
+        kept = k.kept ∙ h.kept;
+        moves = k.moves ∙ h.moves;
+        tends = k.tends ∙ h.tends;
+      }
 
   -- calls on root places alone, one after another
   pub rests_then : (c d f : Sight U) → Rests c d → Rests d f → Rests c f
@@ -43,8 +53,8 @@ module _ {U : Type 0} where
   pub rests_none : (c : Sight U) → Rests c c
   rests_none c =
       record {
-        caller = record { usage = refl; start = refl; number = refl };
-        untended = record { copying = refl; moves = refl; tends = refl };
+        caller = record { usage = refl; start = refl; number = refl; span = refl };
+        untended = record { copying = refl; kept = refl; moves = refl; tends = refl };
         seen = refl;
         mine = refl;
         room = refl;

@@ -24,9 +24,11 @@ pub record Sight (U : Type 0) : Type 0 where
   -- how many versions may be given to it before its collector acts, and whether a fetch may take one
   pub room : ℕ
   pub copying : Bool
-  -- the counts behind its room: places used, and regions free
+  -- the counts behind its room: places used of its To region, of how many, and regions free, of which kept back
   pub used : ℕ
+  pub span : ℕ
   pub free : ℕ
+  pub kept : ℕ
   -- how often it moved the cycle on, how often it tended, and how much tending is left
   pub moves : ℕ
   pub tends : ℕ
@@ -81,10 +83,12 @@ module _ {U : Type 0} where
     pub usage : d.usage ≡ c.usage
     pub start : d.start ≡ c.start
     pub number : d.number ≡ c.number
+    pub span : d.span ≡ c.span
 
-  -- no call but that of tending changes whether it copies, and the counts of moves and tends
+  -- no call but that of tending changes whether it copies, what it keeps back, and the counts of moves and tends
   pub record IsUntended (c d : Sight U) : Type 0 where
     pub copying : d.copying ≡ c.copying
+    pub kept : d.kept ≡ c.kept
     pub moves : d.moves ≡ c.moves
     pub tends : d.tends ≡ c.tends
 

@@ -1,20 +1,17 @@
--- What a worker's tending does.
-use Rattle.std.specs.Prelude.{◌≡◌, ℕ, ◌+◌, ◌<◌, ◌≤◌, min}
+-- What a worker's tending does, and what its counts allow.
+use Rattle.std.specs.Prelude.{◌≡◌, ℕ, ◌+◌, ◌-◌, ◌*◌, ◌<◌, ◌≤◌}
 use Rattle.hm_model.specs.declared.worker.Tended.{Tended}
 use Rattle.hm_model.specs.declared.worker.Tended.TheVariants.{Nothing, Advanced, Waits, NoRoom, Spent}
 use Rattle.hm_model.specs.Sight.{Sight, IsSameCaller}
 
--- a count stands still at the last number of its type
-abbrev pub last_count : ℕ
-last_count = 18446744073709551615
-
--- else one more raises it by one
-abbrev pub next_count : ℕ → ℕ
-next_count count = min (count + 1) last_count
+-- counts allow so many versions: the places left of the To region, and a region's places for each free region but
+-- those that are kept back
+abbrev pub allowed_versions : {U : Type 0} → Sight U → ℕ
+allowed_versions c = (c.span - c.used) + c.span * (c.free - c.kept)
 
 -- a tend has moved the cycle on where it answers Advanced, and that counts
 abbrev pub moves_after : Tended → ℕ → ℕ
-moves_after Advanced moves = next_count moves
+moves_after Advanced moves = moves + 1
 moves_after _ moves = moves
 
 -- less tending is left after each tend that did something; a scan that found no room begins anew

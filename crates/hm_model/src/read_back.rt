@@ -12,7 +12,7 @@ use crate::usage::Usage;
 /// Stores a number into an object and fetches it again, over any heap and under any usage.
 ///
 /// The fetch stands in a history that has the store. So it answers the stored number, unless another caller stored to
-/// the object between.
+/// the object between. All root places name what they named.
 pub fn store_and_fetch<U: Usage, C: Caller<U>>(
     c: &mut C,
     at: Root,
@@ -25,6 +25,7 @@ pub fn store_and_fetch<U: Usage, C: Caller<U>>(
     ensures read { IfOk result
         (ReadsBack U.lawful U.allowed (C.sight c.old) (C.sight c.new) at i value) }
     ensures full { IsErr result ↔ ((C.sight c.old).room ≡ 0) }
+    ensures names { (C.sight c.new).roots ≡ (C.sight c.old).roots }
     ensures unchanged { OnErr result (C.sight c.new ≡ C.sight c.old) }
 {
     c.store_number(at, i, value)?;

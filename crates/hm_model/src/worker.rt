@@ -1,5 +1,5 @@
 //! Callers that help to collect.
-ghost use Rattle.std.specs.Prelude.{◌≡◌};
+ghost use Rattle.std.specs.Prelude.{◌≡◌, ◌+◌};
 
 use crate::caller::Caller;
 use crate::usage::Usage;
@@ -33,21 +33,24 @@ pub enum Tended {
 
 /// A caller that does a bounded piece of the collector's work when it is told to.
 pub trait Worker<U: Usage>: Caller<U> {
-    ghost use Rattle.hm_model.specs.Tending.{KeepsNames, moves_after, next_count, ComesNearer};
+    ghost use Rattle.hm_model.specs.Tending.{KeepsNames, moves_after, ComesNearer, allowed_versions};
 
     /// One piece of work, as at a safepoint. It makes no entry, takes no memory and no lock, and does not wait.
     fn tend(&mut self) -> Tended
         ensures moves { (Self.sight self.new).moves
             ≡ moves_after result (Self.sight self.old).moves }
-        ensures tends { (Self.sight self.new).tends ≡ next_count (Self.sight self.old).tends }
+        ensures tends { (Self.sight self.new).tends ≡ (Self.sight self.old).tends + 1 }
         ensures to_go { ComesNearer result (Self.sight self.old).to_go (Self.sight self.new).to_go }
         ensures same { KeepsNames (Self.sight self.old) (Self.sight self.new) };
 
-    /// How many places are used of its To region, the to-space that it gives versions out of.
+    /// How many places are used of its To region, the to-space that it gives versions out of. With `free` it says how
+    /// much room there is: at a refusal as [`Full`](crate::Full) the two allow no version.
     fn used(&self) -> u32
-        ensures { result ≡ (Self.sight self.now).used };
+        ensures used { result ≡ (Self.sight self.now).used }
+        ensures room { (Self.sight self.now).room ≡ allowed_versions (Self.sight self.now) };
 
     /// How many of its regions are free.
     fn free(&self) -> u32
-        ensures { result ≡ (Self.sight self.now).free };
+        ensures free { result ≡ (Self.sight self.now).free }
+        ensures room { (Self.sight self.now).room ≡ allowed_versions (Self.sight self.now) };
 }

@@ -6,7 +6,7 @@ use Rattle.hm_model.specs.declared.entry.Entry.{Entry}
 use Rattle.hm_model.specs.declared.entry.Entry.TheVariants.{StoreIf}
 use Rattle.hm_model.specs.declared.root.Root.{Root}
 use Rattle.hm_model.specs.Store.{Numbers, PlainStore}
-use Rattle.hm_model.specs.Sight.{Sight, Places, Enters, MayEnter, names_of, root_of}
+use Rattle.hm_model.specs.Sight.{Sight, Places, Enters, IsUntended, MayEnter, names_of, root_of}
 use Rattle.hm_model.specs.Effect.{with_all}
 use Rattle.hm_model.specs.Calls.{FindsChanged, MayStoreIf, StoresAll}
 use Rattle.hm_model.proofs.CallFacts.{finds_changed_enters, stores_all_enters}
@@ -27,6 +27,7 @@ module _ {U : Type 0} (lawful : U → PlainStore → Type 0) (allowed : U → Pl
   ends_from s p t e d taken same is ends = record {
     entry = subst (λ (c : Sight U). Enters lawful allowed c (sight_of t) e) same
         (subst (Enters lawful allowed (sight_of p) (sight_of t)) is ends.entry);
+    untended = subst (λ (c : Sight U). IsUntended c (sight_of t)) same ends.untended;
     names = ends.names ∙ ap (λ (c : Sight U). c.roots) same;
     room = ends.room ∙ ap (λ (c : Sight U). c.room) same;
     keeps = ends.keeps;

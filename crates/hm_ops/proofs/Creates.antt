@@ -6,10 +6,11 @@ use Rattle.hm_model.specs.declared.entry.Entry.{Entry}
 use Rattle.hm_model.specs.declared.entry.Entry.TheVariants.{Create}
 use Rattle.hm_model.specs.declared.root.Root.{Root}
 use Rattle.hm_model.specs.Store.{Numbers, PlainStore, Refs}
-use Rattle.hm_model.specs.Sight.{Sight, Places, SetsRoot, Enters, MayEnter, name_at, names_of}
+use Rattle.hm_model.specs.Sight.{Sight, Places, SetsRoot, Enters, Continues, IsUntended, MayEnter, name_at, names_of}
 use Rattle.hm_model.specs.Calls.{Creates, MayCreate}
 use Rattle.hm_model.proofs.CallFacts.{creates_enters}
 use Rattle.hm_model.proofs.Entering.{enters_rests}
+use Rattle.hm_model.proofs.SightFacts.{continues_enters, continues_rests, continues_then}
 use Rattle.hm_moves.specs.declared.part.Site.{Site}
 use Rattle.hm_moves.specs.declared.moving.Act.{Act}
 use Rattle.hm_moves.specs.declared.moving.Act.TheVariants.{Builds}
@@ -21,7 +22,7 @@ use Rattle.hm_cells.specs.Calls.{MayPublish, Takes, drafted, drafted_numbers, dr
 use Rattle.hm_ops.specs.Resting.{Keeps}
 use Rattle.hm_ops.specs.Placing.{Settles}
 use Rattle.hm_ops.specs.Writing.{Drafts}
-use Rattle.hm_ops.proofs.OneStep.{site_kept}
+use Rattle.hm_ops.proofs.OneStep.{site_kept, untended_kept}
 use Rattle.hm_ops.proofs.Settled.{HasTaken, OnceSettled, new_taken, settled_keeps, taken_hand, taken_name}
 
 module _ {U : Type 0} (lawful : U → PlainStore → Type 0) (allowed : U → PlainStore → Entry → Type 0) where
@@ -42,7 +43,7 @@ module _ {U : Type 0} (lawful : U → PlainStore → Type 0) (allowed : U → Pl
         → IsSound lawful allowed u → Takes lawful allowed t (Builds (Publish (drafted t.part))) 0 u
         → made ≡ next_version t.part → HasRoom s.part
         → OnceSettled u into made (λ f. Creates lawful allowed (sight_of s) (sight_of f) into refs numbers
-        × Keeps lawful allowed f m)
+        × Keeps lawful allowed f m × Continues lawful allowed (sight_of s) (sight_of f))
     create_ends m u into made k after took is room = record {
       hand = taken_hand lawful allowed m u into made (drafted t.part) has;
       then = λ f settles. (
@@ -52,6 +53,10 @@ module _ {U : Type 0} (lawful : U → PlainStore → Type 0) (allowed : U → Pl
             (named f settles) (less f settles),
         subst (λ (x : Facts U). Keeps lawful allowed x m) (sym settles.pass)
             (settled_keeps lawful allowed m u into made (drafted t.part) has),
+        continues_then lawful allowed (sight_of s) (sight_of u) (sight_of f)
+            (continues_enters lawful allowed (sight_of s) (sight_of u)
+            (Create s.part.number n (names_of (sight_of s) refs) numbers) entered untended)
+            (continues_rests lawful allowed (sight_of u) (sight_of f) settles.same),
       );
     }
       where
@@ -74,6 +79,10 @@ module _ {U : Type 0} (lawful : U → PlainStore → Type 0) (allowed : U → Pl
             (subst (λ (l : Refs). Enters lawful allowed (sight_of t) (sight_of u)
             (Create t.part.number n l (drafted_numbers t.part))) d.refs_are
             took.tells))
+
+        untended : IsUntended (sight_of s) (sight_of u)
+        untended = subst (λ (c : Sight U). IsUntended c (sight_of u)) d.same
+            (untended_kept lawful allowed t u act 0 took)
 
         named : (f : Facts U) → Settles u into made f → SetsRoot (sight_of s) (sight_of f) into.0 (Some n)
         named f settles =

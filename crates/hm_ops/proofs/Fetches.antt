@@ -5,7 +5,7 @@ use Rattle.hm_model.specs.declared.object.Name.{Name}
 use Rattle.hm_model.specs.declared.root.Root.{Root}
 use Rattle.hm_model.specs.declared.entry.Entry.{Entry}
 use Rattle.hm_model.specs.Store.{Numbers, PlainStore}
-use Rattle.hm_model.specs.Sight.{Rests, SetsHand, Sight, name_at}
+use Rattle.hm_model.specs.Sight.{IsUntended, Rests, SetsHand, Sight, name_at}
 use Rattle.hm_model.specs.declared.entry.Entry.TheVariants.{Fetch}
 use Rattle.hm_model.specs.Calls.{Fetches, FetchesAll}
 use Rattle.hm_model.proofs.CallFacts.{fetches_enters, fetches_rests}
@@ -30,6 +30,7 @@ module _ {U : Type 0} (lawful : U → PlainStore → Type 0) (allowed : U → Pl
             (fetches_enters lawful allowed (sight_of p) (sight_of t) r (known_at p v).contents
             (known_at p v).name (come_named lawful allowed m s p r v come) last.tells
             record { falls = omega arith; by_one = omega arith; kept = λ _. room }));
+        untended = subst (λ (c : Sight U). IsUntended c (sight_of t)) come.same last.untended;
         names = last.names ∙ ap (λ (c : Sight U). c.roots) come.same;
         place = ap (λ (l : List (Option Version)). get_or l r.0 None) last.roots ∙ come.place;
         keeps = last.keeps;

@@ -6,7 +6,7 @@ use Rattle.hm_model.specs.declared.object.Name.{Name}
 use Rattle.hm_model.specs.declared.entry.Entry.{Entry}
 use Rattle.hm_model.specs.declared.root.Root.{Root}
 use Rattle.hm_model.specs.Store.{PlainStore}
-use Rattle.hm_model.specs.Sight.{Sight, Enters, name_at, root_of}
+use Rattle.hm_model.specs.Sight.{Sight, Enters, IsUntended, name_at, root_of}
 use Rattle.hm_moves.specs.declared.part.Known.{Known}
 use Rattle.hm_moves.specs.declared.part.Site.{Site}
 use Rattle.hm_moves.specs.declared.moving.Act.{Act}
@@ -26,7 +26,7 @@ use Rattle.hm_ops.specs.Resting.{IsAtPlace, Keeps}
 use Rattle.hm_ops.specs.Placing.{settled}
 use Rattle.hm_ops.specs.Walking.{GoesOn, HasCome, IsLast}
 use Rattle.hm_ops.specs.Storing.{Ends}
-use Rattle.hm_ops.proofs.OneStep.{keeps_none, room_kept, roots_kept, same_sight, site_kept}
+use Rattle.hm_ops.proofs.OneStep.{keeps_none, room_kept, roots_kept, same_sight, site_kept, untended_kept}
 use Rattle.hm_ops.proofs.Settled.{HasTaken, OnceSettled, found_taken, new_taken, place_below, root_named, settled_keeps, settled_same, taken_hand}
 
 -- a link of 0 names none
@@ -89,6 +89,7 @@ module _ {U : Type 0} (lawful : U → PlainStore → Type 0) (allowed : U → Pl
         record {
           tells = subst (λ (o : Option Entry). Tells lawful allowed o (sight_of s) (sight_of t)) (where_none want)
               took.tells;
+          untended = untended_kept lawful allowed s t act 0 took;
           same = λ none. same_sight lawful allowed s t act 0 took (where_none want ∙ none) refl;
           names = took.names;
           room = room_kept lawful allowed s t act 0 took refl;
@@ -177,6 +178,7 @@ module _ {U : Type 0} (lawful : U → PlainStore → Type 0) (allowed : U → Pl
           hand = taken_hand lawful allowed m t r made fresh has;
           then = λ u settles. subst (Ends lawful allowed m s entry 1) (sym settles.pass) record {
             entry = subst (λ (c : Sight U). Enters lawful allowed (sight_of s) c entry) (sym same) took.tells;
+            untended = subst (IsUntended (sight_of s)) (sym same) (untended_kept lawful allowed s t act 0 took);
             names = ap (λ (c : Sight U). c.roots) same ∙ took.names;
             room = omega arith;
             keeps = settled_keeps lawful allowed m t r made fresh has;

@@ -1,8 +1,9 @@
 -- What one step leaves of a pass.
-use Rattle.std.proofs.Common.{◌≡◌, ◌≤◌, ◌+◌, ◌-◌, ℕ, List, [], ◌++◌, length, map, append-nil, Option, None, sym, ap, ◌∙◌, subst, arith}
+use Rattle.std.proofs.Common.{◌≡◌, ◌≤◌, ◌+◌, ◌-◌, ℕ, List, [], ◌++◌, length, map, append-nil, Option, None, refl, sym, ap, ◌∙◌, subst, arith}
 use Rattle.hm_shape.specs.declared.version.Version.{Version}
 use Rattle.hm_model.specs.declared.entry.Entry.{Entry}
 use Rattle.hm_model.specs.Store.{PlainStore}
+use Rattle.hm_model.specs.Sight.{IsUntended}
 use Rattle.hm_moves.specs.declared.part.Known.{Known}
 use Rattle.hm_moves.specs.declared.moving.Act.{Act}
 use Rattle.hm_moves.specs.After.{count_of, seen_after}
@@ -100,6 +101,15 @@ module _ {U : Type 0} (lawful : U → PlainStore → Type 0) (allowed : U → Pl
     pub room_kept : publishes act x ≡ None → room_of t.part ≡ room_of s.part
     room_kept nothing = λ i. (site_kept i).shape.versions - used_kept nothing i
 
+    -- no move tends
+    pub untended_kept : IsUntended (sight_of s) (sight_of t)
+    untended_kept = record {
+      copying = refl;
+      kept = refl;
+      moves = ap (λ (f : Facts U). f.moves) took.is;
+      tends = ap (λ (f : Facts U). f.tends) took.is;
+    }
+
     -- and one that makes no entry either is not seen
     pub same_sight : entry_of s.part.number act x ≡ None → publishes act x ≡ None → sight_of t ≡ sight_of s
     same_sight no_entry nothing =
@@ -116,4 +126,7 @@ module _ {U : Type 0} (lawful : U → PlainStore → Type 0) (allowed : U → Pl
           roots = took.names i;
           room = room_kept nothing i;
           used = used_kept nothing i;
+          span = (site_kept i).shape.versions;
+          moves = (took.is i).moves;
+          tends = (took.is i).tends;
         }

@@ -8,7 +8,7 @@ use Rattle.hm_model.specs.declared.entry.Entry.{Entry}
 use Rattle.hm_model.specs.declared.entry.Entry.TheVariants.{StoreIf}
 use Rattle.hm_model.specs.declared.root.Root.{Root}
 use Rattle.hm_model.specs.Store.{Numbers, PlainStore}
-use Rattle.hm_model.specs.Sight.{Places, Enters, names_of}
+use Rattle.hm_model.specs.Sight.{Places, Enters, IsUntended, names_of}
 use Rattle.hm_cells.specs.Facts.{Facts, Made, known_at, names_at, room_of, sight_of}
 use Rattle.hm_cells.specs.Calls.{IsWholeCopy}
 use Rattle.hm_ops.specs.declared.replacing.Attempt.{Attempt}
@@ -35,6 +35,7 @@ module _ {U : Type 0} where
     -- a call ends: it made its entry, and took so many versions
     pub record Ends (s : Facts U) (e : Entry) (taken : ℕ) (t : Facts U) : Type 0 where
       pub entry : Enters lawful allowed (sight_of s) (sight_of t) e
+      pub untended : IsUntended (sight_of s) (sight_of t)
       pub names : names_at t ≡ names_at s
       pub room : room_of t.part + taken ≡ room_of s.part
       pub keeps : Keeps lawful allowed t m

@@ -8,7 +8,7 @@ use Rattle.hm_model.specs.declared.object.Contents.{Contents}
 use Rattle.hm_model.specs.declared.entry.Entry.{Entry}
 use Rattle.hm_model.specs.declared.root.Root.{Root}
 use Rattle.hm_model.specs.Store.{PlainStore}
-use Rattle.hm_model.specs.Sight.{Rests, SetsRoot}
+use Rattle.hm_model.specs.Sight.{IsUntended, Rests, SetsRoot}
 use Rattle.hm_model.specs.Calls.{Fetches}
 use Rattle.hm_moves.specs.Chain.{reference_at}
 use Rattle.hm_cells.specs.Facts.{Facts, Made, IsHeldAt, known_at, names_at, place_name, room_of, sight_of}
@@ -42,6 +42,7 @@ module _ {U : Type 0} where
     -- a walk ends at a version, which its root place names, and the object was fetched there
     pub record Walks (s : Facts U) (r : Root) (v : Version) (t : Facts U) : Type 0 where
       pub fetch : Fetches lawful allowed (sight_of s) (sight_of t) r (contents_at t v)
+      pub untended : IsUntended (sight_of s) (sight_of t)
       pub names : names_at t ≡ names_at s
       pub place : IsAtPlace t r.0 v
       pub keeps : Keeps lawful allowed t m
@@ -60,6 +61,7 @@ module _ {U : Type 0} where
     -- no version lies behind one: the wanted entry is made, and without one nothing shows to others
     pub record IsLast (s : Facts U) (v : Version) (want : Option Entry) (t : Facts U) : Type 0 where
       pub tells : Tells lawful allowed want (sight_of s) (sight_of t)
+      pub untended : IsUntended (sight_of s) (sight_of t)
       pub same : want ≡ None → sight_of t ≡ sight_of s
       pub names : names_at t ≡ names_at s
       pub room : room_of t.part ≡ room_of s.part

@@ -47,10 +47,10 @@ is_some-map (Some k) = refl
 
 module _ {U : Type 0} where
   -- other root places alone
-  rests_places : (v : View U) (o : Stock) (roots after : List (Option ℕ)) (t : ℕ) (d : Sight U) → sight_of v o roots t ≡ d → Rests d (sight_of v o after t)
-  rests_places v o roots after t d view = subst (λ (x : Sight U). Rests x (sight_of v o after t)) view record {
-    caller = record { usage = refl; start = refl; number = refl };
-    untended = record { copying = refl; moves = refl; tends = refl };
+  rests_places : (v : View U) (o : Stock) (roots after : List (Option ℕ)) (d : Sight U) → sight_of v o roots ≡ d → Rests d (sight_of v o after)
+  rests_places v o roots after d view = subst (λ (x : Sight U). Rests x (sight_of v o after)) view record {
+    caller = record { usage = refl; start = refl; number = refl; span = refl };
+    untended = record { copying = refl; kept = refl; moves = refl; tends = refl };
     seen = refl;
     mine = refl;
     room = refl;
@@ -59,8 +59,8 @@ module _ {U : Type 0} where
   }
 
   -- what is there has indices of the table
-  pub found_below : (v : View U) (o : Stock) (roots indices : List (Option ℕ)) (t : ℕ) (d : Sight U) → sight_of v o roots t ≡ d → Agree v o roots → AreThere (present d) (indexed_names indices) → AreBelow (length o.contents) indices
-  found_below v o roots indices t d view h there =
+  pub found_below : (v : View U) (o : Stock) (roots indices : List (Option ℕ)) (d : Sight U) → sight_of v o roots ≡ d → Agree v o roots → AreThere (present d) (indexed_names indices) → AreBelow (length o.contents) indices
+  found_below v o roots indices d view h there =
       let here = subst (λ (x : Sight U). AreThere (present x) (indexed_names indices)) (sym view) there in
       all_below o.contents indices (subst (λ (s : PlainStore). AreThere s (indexed_names indices)) (sym h.store) here)
 
@@ -77,17 +77,17 @@ module _ {U : Type 0} where
 
   module _ (lawful : U → PlainStore → Type 0) (allowed : U → PlainStore → Entry → Type 0) where
     -- a fetch of one reference
-    pub fetches_ref : (v : View U) (o : Stock) (roots : List (Option ℕ)) (t : ℕ) (from into : Root) (x : Object) (i : ℕ) (result : Bool) (c d : Sight U) → sight_of v o roots t ≡ d → into.0 < length roots
-        → Fetches lawful allowed c d from (contents_of_object x) → d.roots ≡ c.roots → result ≡ is_some (get_or x.refs i None) → FetchesRef lawful allowed c (sight_of v o (slice_set roots into.0 (get_or x.refs i None)) t) from i into result
-    fetches_ref v o roots t from into x i result c d view small fetched same is =
+    pub fetches_ref : (v : View U) (o : Stock) (roots : List (Option ℕ)) (from into : Root) (x : Object) (i : ℕ) (result : Bool) (c d : Sight U) → sight_of v o roots ≡ d → into.0 < length roots
+        → Fetches lawful allowed c d from (contents_of_object x) → d.roots ≡ c.roots → result ≡ is_some (get_or x.refs i None) → FetchesRef lawful allowed c (sight_of v o (slice_set roots into.0 (get_or x.refs i None))) from i into result
+    fetches_ref v o roots from into x i result c d view small fetched same is =
         let index = get_or x.refs i None in
         let after = slice_set roots into.0 index in
-        let f = sight_of v o after t in
+        let f = sight_of v o after in
         let name : option_map indexed_name index ≡ name_at (indexed_names x.refs) i = sym (get_or-map (option_map indexed_name) x.refs i None) in
-        let sets : SetsRoot d f into.0 (option_map indexed_name index) = subst (λ (y : Sight U). SetsRoot y f into.0 (option_map indexed_name index)) view (sets_root v v o o roots t t into.0 index small) in
+        let sets : SetsRoot d f into.0 (option_map indexed_name index) = subst (λ (y : Sight U). SetsRoot y f into.0 (option_map indexed_name index)) view (sets_root v v o o roots into.0 index small) in
         record {
           answer = contents_of_object x;
-          fetch = fetches_rests lawful allowed c d f from (contents_of_object x) fetched (rests_places v o roots after t d view);
+          fetch = fetches_rests lawful allowed c d f from (contents_of_object x) fetched (rests_places v o roots after d view);
           value = is ∙ (sym (is_some-map index) ∙ ap is_some name);
           roots = record {
             here = sets.here ∙ name;
@@ -96,20 +96,20 @@ module _ {U : Type 0} where
         }
 
     -- a whole fetch
-    pub fetches_all : (v : View U) (o : Stock) (roots : List (Option ℕ)) (t n : ℕ) (from hand : Root) (x : Object) (c d : Sight U) → sight_of v o roots t ≡ d → n ≡ 4 → length x.refs ≡ 4 → hand.0 + 4 ≤ length roots
-        → Fetches lawful allowed c d from (contents_of_object x) → d.roots ≡ c.roots → FetchesAll lawful allowed c (sight_of v o (put_mid hand.0 n roots x.refs) t) from hand (snapshot_of (contents_of_object x))
-    fetches_all v o roots t n from hand x c d view four long small fetched same =
+    pub fetches_all : (v : View U) (o : Stock) (roots : List (Option ℕ)) (n : ℕ) (from hand : Root) (x : Object) (c d : Sight U) → sight_of v o roots ≡ d → n ≡ 4 → length x.refs ≡ 4 → hand.0 + 4 ≤ length roots
+        → Fetches lawful allowed c d from (contents_of_object x) → d.roots ≡ c.roots → FetchesAll lawful allowed c (sight_of v o (put_mid hand.0 n roots x.refs)) from hand (snapshot_of (contents_of_object x))
+    fetches_all v o roots n from hand x c d view four long small fetched same =
         let after = put_mid hand.0 n roots x.refs in
-        let f = sight_of v o after t in
+        let f = sight_of v o after in
         let was : (k : ℕ) → option_map indexed_name (get_or roots k None) ≡ name_at c.roots k =
-        λ k. sym (root_of-index v o roots t k) ∙ (ap (λ (y : Sight U). name_at y.roots k) view ∙ ap (λ (l : List (Option Name)). name_at l k) same) in
+        λ k. sym (root_of-index v o roots k) ∙ (ap (λ (y : Sight U). name_at y.roots k) view ∙ ap (λ (l : List (Option Name)). name_at l k) same) in
         record {
           answer = contents_of_object x;
-          fetch = fetches_rests lawful allowed c d f from (contents_of_object x) fetched (rests_places v o roots after t d view);
+          fetch = fetches_rests lawful allowed c d f from (contents_of_object x) fetched (rests_places v o roots after d view);
           value = refl;
           roots = record {
-            here = λ i less. root_of-index v o after t (hand.0 + i) ∙ (ap (option_map indexed_name) (put_here hand.0 n roots x.refs None four long small i less) ∙ sym (get_or-map (option_map indexed_name) x.refs i None));
-            below = λ k less. root_of-index v o after t k ∙ (ap (option_map indexed_name) (put_below hand.0 n roots x.refs None four long small k less) ∙ was k);
-            above = λ k more. root_of-index v o after t k ∙ (ap (option_map indexed_name) (put_above hand.0 n roots x.refs None four long small k more) ∙ was k);
+            here = λ i less. root_of-index v o after (hand.0 + i) ∙ (ap (option_map indexed_name) (put_here hand.0 n roots x.refs None four long small i less) ∙ sym (get_or-map (option_map indexed_name) x.refs i None));
+            below = λ k less. root_of-index v o after k ∙ (ap (option_map indexed_name) (put_below hand.0 n roots x.refs None four long small k less) ∙ was k);
+            above = λ k more. root_of-index v o after k ∙ (ap (option_map indexed_name) (put_above hand.0 n roots x.refs None four long small k more) ∙ was k);
           };
         }

@@ -108,12 +108,12 @@ version_count-opening start =
     let last = sum_by_push (λ (e : Entry). cond (takes_version e) 1 0) (side_entries 0 start.sides) (Create 0 (common_name start) (side_names 0 start.sides) start.numbers) in omega arith
 
 -- a caller that knows the opening alone, and whose place 0 has the common object's index, is fresh
-pub fresh_caller : {U : Type 0} (usage : U) (start : Start) (o : Stock) (common : ℕ) → indexed_name common ≡ common_name start → IsFresh (sight_of (opened usage start) o (fresh_roots common) 0)
-fresh_caller usage start o common is = record {
+pub fresh_caller : {U : Type 0} (usage : U) (start : Start) (versions : ℕ) (o : Stock) (common : ℕ) → indexed_name common ≡ common_name start → IsFresh (sight_of (opened usage start versions) o (fresh_roots common))
+fresh_caller usage start versions o common is = record {
   seen = refl;
   mine = sym (calls_of-opening_mine start);
-  common = root_of-index (opened usage start) o (fresh_roots common) 0 0 ∙ (ap (option_map indexed_name) (get_or-set_same (replicate 256 None) 0 (Some common) None (omega arith)) ∙ ap (λ (n : Name). Some n) is);
-  unset = λ k ne. root_of-index (opened usage start) o (fresh_roots common) 0 k
+  common = root_of-index (opened usage start versions) o (fresh_roots common) 0 ∙ (ap (option_map indexed_name) (get_or-set_same (replicate 256 None) 0 (Some common) None (omega arith)) ∙ ap (λ (n : Name). Some n) is);
+  unset = λ k ne. root_of-index (opened usage start versions) o (fresh_roots common) k
       ∙ ap (option_map indexed_name) (get_or-set_other (replicate 256 None) 0 k (Some common) None ne ∙ none_there 256 k);
   copying = refl;
   moves = refl;

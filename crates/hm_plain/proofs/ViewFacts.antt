@@ -17,7 +17,7 @@ use Rattle.hm_plain.specs.declared.call.Call.{Call}
 use Rattle.hm_plain.specs.declared.call.Call.TheVariants.{Create, Fetch, Store, StoreIf}
 use Rattle.hm_plain.specs.declared.diary.View.{View}
 use Rattle.hm_plain.specs.Calls.{entry_of}
-use Rattle.hm_plain.specs.Views.{EachView, IsKept, MayAdd, Adds, opened, longer, store_in}
+use Rattle.hm_plain.specs.Views.{EachView, IsKept, MayAdd, Adds, opened, longer, tended, store_in}
 
 module _ {U : Type 0} (lawful : U → PlainStore → Type 0) (allowed : U → PlainStore → Entry → Type 0) (laws : (u : U) → UsageLaws (lawful u) (allowed u)) where
   -- a history with an entry more is kept
@@ -45,6 +45,19 @@ module _ {U : Type 0} (lawful : U → PlainStore → Type 0) (allowed : U → Pl
         (record { view = refl; was = was; come = comes }, refl),
       )
 
+-- a load at which a tend counts keeps the rule of the table
+pub tends_allowed : {U S : Type 0} (lawful : U → PlainStore → Type 0) (allowed : U → PlainStore → Entry → Type 0) (slots id i : ℕ) (v : View U) (c : List (ℕ × S))
+    → Allows {S = S} (EachView (IsKept lawful allowed)) slots id (v, c) i (λ n. n) (λ _ w. (w.0 ≡ tended v) × (w.1 ≡ c))
+tends_allowed {U} lawful allowed slots id i v c s holds same at small =
+    let was : IsKept lawful allowed v = holds id v at in
+    let now : IsKept lawful allowed (tended v) = record { history = was.history; calls = was.calls } in (
+      tended v,
+      keeps,
+      tt,
+      (λ j u there. ⊎_elim (λ (t : (j ≡ id) × (tended v ≡ u)). subst (IsKept lawful allowed) t.1 now) (λ (t : (j ≢ id) × (get_elem? s.views j ≡ some u)). holds j u t.1) (at_set s.views id j (tended v) u there)),
+      (refl, refl),
+    )
+
 -- every call is caller 0's
 pub caller_of-entry_of : (call : Call) → caller_of (entry_of call) ≡ 0
 caller_of-entry_of (Create at refs numbers) = refl
@@ -53,9 +66,9 @@ caller_of-entry_of (Store at change) = refl
 caller_of-entry_of (StoreIf at stamp refs numbers answer) = refl
 
 -- a table that begins with the opening keeps the rule
-pub opening_kept : {U : Type 0} (lawful : U → PlainStore → Type 0) (allowed : U → PlainStore → Entry → Type 0) (usage : U) (start : Start) → IsSizedStart start → lawful usage (store_of (opening_of start))
-    → (j : ℕ) (v : View U) → get_elem? (opened usage start ∷ []) j ≡ some v → IsKept lawful allowed v
-opening_kept lawful allowed usage start sized now zero v there =
-    let is : opened usage start ≡ v = cc in
+pub opening_kept : {U : Type 0} (lawful : U → PlainStore → Type 0) (allowed : U → PlainStore → Entry → Type 0) (usage : U) (start : Start) (versions : ℕ) → IsSizedStart start → lawful usage (store_of (opening_of start))
+    → (j : ℕ) (v : View U) → get_elem? (opened usage start versions ∷ []) j ≡ some v → IsKept lawful allowed v
+opening_kept lawful allowed usage start versions sized now zero v there =
+    let is : opened usage start versions ≡ v = cc in
     subst (IsKept lawful allowed) is record { history = lawful_opening (lawful usage) (allowed usage) start sized now; calls = calls_of-opening_mine start }
-opening_kept lawful allowed usage start sized now (suc j) v there = absurd (cc)
+opening_kept lawful allowed usage start versions sized now (suc j) v there = absurd (cc)

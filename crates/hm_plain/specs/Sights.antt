@@ -1,5 +1,5 @@
 -- What contracts see of a plain caller, and how its parts agree.
-use Rattle.std.specs.Prelude.{◌≡◌, ℕ, Bool, true, false, List, length, Option, Some, None, slice_index_or, slice_set, replicate, count_by}
+use Rattle.std.specs.Prelude.{◌≡◌, ℕ, ◌+◌, Bool, true, false, List, length, Option, Some, None, slice_index_or, slice_set, replicate, count_by}
 use Rattle.hm_model.specs.declared.entry.Tried.TheVariants.{Stored, Changed}
 use Rattle.hm_model.specs.declared.entry.Entry.{Entry}
 use Rattle.hm_model.specs.declared.entry.Entry.TheVariants.{Create, Fetch, Store, StoreIf}
@@ -33,8 +33,8 @@ fresh_roots common = slice_set (replicate 256 None) 0 (Some common)
 
 module _ {U : Type 0} where
   -- a plain caller is caller 0 of its heap, and collects nothing
-  abbrev pub sight_of : View U → Stock → List (Option ℕ) → ℕ → Sight U
-  sight_of v objects roots tends = record {
+  abbrev pub sight_of : View U → Stock → List (Option ℕ) → Sight U
+  sight_of v objects roots = record {
     usage = v.usage;
     start = v.start;
     number = 0;
@@ -44,9 +44,11 @@ module _ {U : Type 0} where
     room = objects.room;
     copying = false;
     used = objects.used;
+    span = v.versions;
     free = 0;
+    kept = 0;
     moves = 0;
-    tends = tends;
+    tends = v.tends;
     to_go = 0;
   }
 
@@ -56,14 +58,17 @@ module _ {U : Type 0} where
     pub alone : c.mine ≡ c.seen
     pub copying : c.copying ≡ false
     pub used : c.used ≡ version_count c.seen
+    pub versions : c.used + c.room ≡ c.span
     pub free : c.free ≡ 0
+    pub kept : c.kept ≡ 0
     pub moves : c.moves ≡ 0
     pub to_go : c.to_go ≡ 0
 
   -- all that was seen is the caller's own, the table holds what the history leaves, its versions are those that the
-  -- history takes, and places name objects
+  -- history takes, with those that are left they are all, and places name objects
   pub record Agree (v : View U) (objects : Stock) (roots : List (Option ℕ)) : Type 0 where
     pub alone : v.mine ≡ v.seen
     pub store : numbered objects.contents ≡ store_in v
     pub used : objects.used ≡ version_count v.seen
+    pub versions : objects.used + objects.room ≡ v.versions
     pub places : AreBelow (length objects.contents) roots

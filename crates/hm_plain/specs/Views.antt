@@ -1,5 +1,5 @@
 -- What the one seat of a plain heap knows: the history, which is carried here and never stored.
-use Rattle.std.specs.Prelude.{◌≡◌, ℕ, [], ◌∷◌, ◌++◌}
+use Rattle.std.specs.Prelude.{◌≡◌, ℕ, ◌+◌, [], ◌∷◌, ◌++◌}
 use mathlib.Core.Option.{some}
 use lib.ListN.{get_elem?}
 use Rattle.atomic_table.specs.Table.{State}
@@ -21,13 +21,24 @@ abbrev pub some_entry : Entry
 some_entry = Create 0 (starting_name 0) [] []
 
 module _ {U : Type 0} where
-  -- at first the seat has seen the opening, which caller 0 has made
-  abbrev pub opened : U → Start → View U
-  opened usage start = record { usage = usage; start = start; seen = opening_of start; mine = opening_of start }
+  -- at first the seat has seen the opening, which caller 0 has made, and has not tended
+  abbrev pub opened : U → Start → ℕ → View U
+  opened usage start versions = record {
+    usage = usage;
+    start = start;
+    versions = versions;
+    seen = opening_of start;
+    mine = opening_of start;
+    tends = 0;
+  }
 
   -- an entry that caller 0 makes comes last
   abbrev pub longer : View U → Entry → View U
-  longer v e = record { usage = v.usage; start = v.start; seen = v.seen ++ e ∷ []; mine = v.mine ++ e ∷ [] }
+  longer v e = record v { seen = v.seen ++ e ∷ []; mine = v.mine ++ e ∷ [] }
+
+  -- a tend counts
+  abbrev pub tended : View U → View U
+  tended v = record v { tends = v.tends + 1 }
 
   -- the store that the seat has seen
   abbrev pub store_in : View U → PlainStore

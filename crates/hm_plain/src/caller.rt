@@ -15,7 +15,6 @@ pub struct PlainCaller<U: Usage> {
     diary: Diary<U>,
     objects: Objects,
     roots: [Option<u32>; 256],
-    tends: u64,
 }
 
 impl<U: Usage> Model for PlainCaller<U> {
@@ -24,7 +23,7 @@ impl<U: Usage> Model for PlainCaller<U> {
 
     ghost Value = { Sight U };
 
-    ghost view = { λ c. sight_of c.diary c.objects c.roots c.tends };
+    ghost view = { λ c. sight_of c.diary c.objects c.roots };
 
     ghost invariant = { λ c. Agree c.diary c.objects c.roots };
 }
@@ -45,7 +44,8 @@ impl<U: Usage> PlainCaller<U> {
         requires alone { diary.mine ≡ diary.seen }
         requires store { numbered objects.contents ≡ store_of diary.seen }
         requires used { objects.used ≡ version_count diary.seen }
-        ensures { result ≡ sight_of diary objects (fresh_roots common) 0 }
+        requires versions { objects.used + objects.room ≡ diary.versions }
+        ensures { result ≡ sight_of diary objects (fresh_roots common) }
     {
         let mut roots = [None; 256];
         roots[0] = Some(common);
@@ -53,7 +53,6 @@ impl<U: Usage> PlainCaller<U> {
             diary,
             objects,
             roots,
-            tends: 0,
         }
     }
 
@@ -181,22 +180,23 @@ impl<U: Usage> Caller<U> for PlainCaller<U> {
 }
 
 impl<U: Usage> Worker<U> for PlainCaller<U> {
-    ghost use Rattle.hm_model.specs.Tending.{next_count};
+    ghost use Rattle.hm_model.specs.Tending.{allowed_versions};
     ghost use Rattle.hm_plain.specs.Sights.{IsPlain};
 
     /// There is nothing to collect.
     fn tend(&mut self) -> Tended
         ensures nothing { result ≡ Tended.Nothing }
-        ensures tends { self.new ≡ record self.old { tends = next_count self.old.tends } }
+        ensures tends { self.new ≡ record self.old { tends = self.old.tends + 1 } }
         ensures plain { IsPlain self.new }
     {
-        self.tends = self.tends.saturating_add(1);
+        self.diary.tend();
         Tended::Nothing
     }
 
     /// How many versions are taken: one for each object that was made, and one for each store.
     fn used(&self) -> u32
         ensures used { result ≡ self.now.used }
+        ensures room { self.now.room ≡ allowed_versions self.now }
         ensures plain { IsPlain self.now }
     {
         self.objects.used()
@@ -205,6 +205,7 @@ impl<U: Usage> Worker<U> for PlainCaller<U> {
     /// Nothing is ever freed.
     fn free(&self) -> u32
         ensures free { result ≡ self.now.free }
+        ensures room { self.now.room ≡ allowed_versions self.now }
         ensures plain { IsPlain self.now }
     {
         let _ = &self.objects;

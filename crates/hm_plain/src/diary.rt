@@ -12,8 +12,12 @@ use std::marker::{Brand, Model, PhantomData};
 pub(crate) struct View<U> {
     pub usage: U,
     pub start: Start,
+    /// How many versions the heap has.
+    pub versions: u64,
     pub seen: LinkedList<Entry>,
     pub mine: LinkedList<Entry>,
+    /// How often its caller tended.
+    pub tends: u64,
 }
 
 /// What the table is told once, when it is made.
@@ -21,6 +25,7 @@ pub(crate) struct View<U> {
 pub(crate) struct Opening<U> {
     pub usage: U,
     pub start: Start,
+    pub versions: u64,
 }
 
 /// The rule of the table: the history is lawful.
@@ -31,7 +36,7 @@ impl<U: Usage> TableRule<(), View<U>, Opening<U>> for Lawfully {
 
     ghost holds = { λ _ s. EachView (IsKept U.lawful U.allowed) s };
 
-    ghost first = { λ k. opened k.usage k.start };
+    ghost first = { λ k. opened k.usage k.start k.versions };
 }
 
 /// The entry that a step makes. Each call picks it.
@@ -53,6 +58,16 @@ impl<J: Entering, U: Usage> Play<(), View<U>> for Makes<J> {
     ghost use Rattle.hm_plain.specs.Views.{Adds};
 
     ghost then = { λ _ m _ w. Adds U.lawful U.allowed m.0 w.0 J.entry × (w.1 ≡ m.1) };
+}
+
+/// A step at which the seat's caller tends.
+pub(crate) struct Tends;
+
+impl<U> Play<(), View<U>> for Tends {
+    ghost use Rattle.std.specs.Prelude.{◌≡◌};
+    ghost use Rattle.hm_plain.specs.Views.{tended};
+
+    ghost then = { λ _ m _ w. (w.0 ≡ tended m.0) × (w.1 ≡ m.1) };
 }
 
 /// A history that contracts see as what its one seat knows.
@@ -79,15 +94,25 @@ impl<U: Usage> Diary<U> {
     ghost use Rattle.hm_model.specs.Effect.{caller_of};
     ghost use Rattle.hm_model.specs.History.{store_of, opening_of, IsSizedStart};
     ghost use Rattle.hm_plain.specs.Calls.{entry_of};
-    ghost use Rattle.hm_plain.specs.Views.{opened, MayAdd, Adds};
+    ghost use Rattle.hm_plain.specs.Views.{opened, tended, MayAdd, Adds};
 
     /// A history that has the opening alone.
-    pub fn open(alloc: Global, usage: U, start: Start) -> Result<Diary<U>, AllocError>
+    pub fn open(
+        alloc: Global,
+        usage: U,
+        start: Start,
+        versions: u64,
+    ) -> Result<Diary<U>, AllocError>
         requires sized { IsSizedStart start }
         requires lawful { U.lawful usage (store_of (opening_of start)) }
-        ensures { IfOk result (λ d. d ≡ opened usage start) }
+        ensures { IfOk result (λ d. d ≡ opened usage start versions) }
     {
-        let (table, seat) = Table::of_words(alloc, &[0], &Opening { usage, start })?;
+        let opening = Opening {
+            usage,
+            start,
+            versions,
+        };
+        let (table, seat) = Table::of_words(alloc, &[0], &opening)?;
         Ok(Diary { table, seat })
     }
 
@@ -97,6 +122,14 @@ impl<U: Usage> Diary<U> {
         ensures { Adds U.lawful U.allowed self.old self.new (entry_of call.now) }
     {
         self.step::<Brand>(call);
+    }
+
+    /// Counts a tend, by one load. The count is never stored.
+    pub fn tend(&mut self)
+        ensures { self.new ≡ tended self.old }
+    {
+        let table = &self.table;
+        table.shared.load::<Tends>(&mut self.seat, 0);
     }
 
     fn step<J: Entering>(&mut self, _call: &Call)

@@ -41,12 +41,13 @@ impl PlainHeap {
         ensures usage { IfOk result (λ c. c.usage ≡ usage) }
         ensures start { IfOk result (λ c. c.start ≡ start) }
         ensures used { IfOk result (λ c. c.used ≡ starting_count start) }
+        ensures span { IfOk result (λ c. c.span ≡ room) }
         ensures room { IfOk result (λ c. c.room + starting_count start ≡ room) }
     {
         let mut objects = Objects::reserve(alloc, room as u32)?;
         objects.open(start);
         let common = start.objects() - 1;
-        let diary = Diary::open(alloc, usage, start)?;
+        let diary = Diary::open(alloc, usage, start, room)?;
         Ok(PlainCaller::fresh(diary, objects, common))
     }
 }

@@ -31,3 +31,11 @@ returns-clause-keeps g c =
     c.draft.ensures.drafts c.args.cells.now c.publish-made.new.pass c.args.into c.publish-made.result
     c.draft.ensures.keeps c.publish-made.ensures.sound c.publish-made.ensures.took c.publish-made.ensures.version
     room).then c.settle.new.pass c.settle.ensures).1
+
+pub returns-clause-same : goal.returns-clause-same
+returns-clause-same g c =
+    let room : HasRoom c.args.pass.now.part = omega (arith, c.if-room-eq0.false, c.room.ensures.room) in
+    ((create_ends g.U.Usage.lawful g.U.Usage.allowed c.args.pass.now c.draft.new.pass c.args.refs c.args.numbers
+    c.draft.ensures.drafts c.args.cells.now c.publish-made.new.pass c.args.into c.publish-made.result
+    c.draft.ensures.keeps c.publish-made.ensures.sound c.publish-made.ensures.took c.publish-made.ensures.version
+    room).then c.settle.new.pass c.settle.ensures).2

@@ -8,21 +8,21 @@ pub invariant_of-result : goal.invariant_of-result
 invariant_of-result g c =
     let site = site_of c.args.opening.now in
     let w = c.requires.words in
-    let both = first_grip c.args.opening.now.start site c.in_ok-grip.grip c.set.new.self
+    let first = first_grip c.args.opening.now.start site c.in_ok-grip.grip c.set.new.self
     (c.objects-common.result - 1) c.in_ok-grip.ensures c.set.ensures
     (omega (arith, c.objects-common.ensures.count)) in
     seated_fresh g.U.Usage.lawful g.U.Usage.allowed site c.args.seat.table_id c.args.number w.1.sized
     (sure_first g.U.Usage.lawful g.U.Usage.allowed site w.0 w.1 w.1.sized c.requires.objects c.requires.lawful
-    c.args.number c.requires.number) c.args.seat c.set.new.self c.requires.seat refl both.0 both.1
+    c.args.number c.requires.number) c.args.seat c.set.new.self c.requires.seat refl first
     c.at.result.0 c.args.used (ap (λ (v : Version). v.0) (sym c.at.ensures.there.number)) c.requires.used
 
 pub returns : goal.returns
 returns g c =
     let site = site_of c.args.opening.now in
     let w = c.requires.words in
-    let both = first_grip c.args.opening.now.start site c.in_ok-grip.grip c.set.new.self
+    let first = first_grip c.args.opening.now.start site c.in_ok-grip.grip c.set.new.self
     (c.objects-common.result - 1) c.in_ok-grip.ensures c.set.ensures
     (omega (arith, c.objects-common.ensures.count)) in
     fresh_is g.U.Usage.lawful g.U.Usage.allowed site c.args.seat.table_id c.args.number w.1.sized
     (sure_first g.U.Usage.lawful g.U.Usage.allowed site w.0 w.1 w.1.sized c.requires.objects c.requires.lawful
-    c.args.number c.requires.number) c.args.seat c.set.new.self c.requires.seat refl both.0 both.1
+    c.args.number c.requires.number) c.args.seat c.set.new.self c.requires.seat refl first

@@ -10,7 +10,7 @@ enter-requires g c =
 pub returns-clause-fetched : goal.returns-clause-fetched
 returns-clause-fetched g c =
     let s = c.self.inside in
-    fetches_adds g.U.Usage.lawful g.U.Usage.allowed g.U.Usage.laws s.diary c.enter.new.self s.objects s.roots s.tends c.args.from c.unwrap-at.result (contents_of_object c.at-answer.result.now) c.args.self.now c.self.view_is c.unwrap-at.ensures
+    fetches_adds g.U.Usage.lawful g.U.Usage.allowed g.U.Usage.laws s.diary c.enter.new.self s.objects s.roots c.args.from c.unwrap-at.result (contents_of_object c.at-answer.result.now) c.args.self.now c.self.view_is c.unwrap-at.ensures
     c.enter.ensures
 
 pub returns-clause-there : goal.returns-clause-there
