@@ -109,8 +109,8 @@ asks_of book = in_order (map ask_of (filter (λ r. is_selling r.side) book))
 abbrev pub ids_of : List Resting → List Pair
 ids_of book = in_order (map id_of book)
 
--- contents of the common object show a book: their references lead over cells with its bids, its asks and
--- its resting ids, and number 8 is its length
+-- contents of the common object show a book: their references lead over cells with its bids, its
+-- asks and its resting ids, and number 8 is its length
 pub record ShowsBook (s : PlainStore) (common : Contents) (book : List Resting) : Type 0 where
   pub bids : IsList (IsNode) s (name_at common.refs 0) (bids_of book)
   pub asks : IsList (IsNode) s (name_at common.refs 1) (asks_of book)
