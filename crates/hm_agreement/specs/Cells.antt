@@ -10,10 +10,8 @@ use Rattle.hm_model.specs.declared.object.Name.{Name}
 use Rattle.hm_model.specs.declared.object.Contents.{Contents}
 use Rattle.hm_model.specs.Store.{Numbers, PlainStore}
 use Rattle.hm_model.specs.Sight.{name_at}
-use Rattle.hm_list.specs.declared.key.Pair.{Pair}
-use Rattle.hm_list.specs.Pairs.{insert}
-use Rattle.hm_list.specs.Cells.{IsList}
 use Rattle.hm_book.specs.declared.book.Resting.{Resting}
+use Rattle.hm_agreement.specs.Lists.{Pair, insert, IsList}
 
 -- the heap starts with side object 3 alone, so the board is caller 0's first object
 abbrev pub board_name : Name
