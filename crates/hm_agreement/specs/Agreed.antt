@@ -16,14 +16,15 @@ use Rattle.hm_agreement.specs.Cells.{board_name, book_name, HoldsOrder, is_buyin
 
 -- a buy does not cross a sell where its price is less
 abbrev pub DoNotCross : Resting → Resting → Type 0
-DoNotCross buy sell = is_buying buy.side ≡ true → is_selling sell.side ≡ true → buy.price < sell.price
+DoNotCross buy sell =
+    is_buying buy.side ≡ true → is_selling sell.side ≡ true → buy.price < sell.price
 
 -- no buy of a book crosses a sell
 abbrev pub IsUncrossed : List Resting → Type 0
 IsUncrossed book = AllPairs (λ a b. DoNotCross a b × DoNotCross b a) book
 
--- contents of the common object have a book where they show it, and it agrees with their numbers: number 0 is
--- the last root number, and number 9 the number of fills
+-- contents of the common object have a book where they show it, and it agrees with their numbers:
+-- number 0 is the last root number, and number 9 the number of fills
 pub record HasBook (s : PlainStore) (common : Contents) (book : List Resting) : Type 0 where
   pub shows : ShowsBook s common book
   pub rising : AllPairs (λ a b. a.root < b.root) book
@@ -32,8 +33,8 @@ pub record HasBook (s : PlainStore) (common : Contents) (book : List Resting) : 
   pub uncrossed : IsUncrossed book
   pub few : slice_index common.numbers 9 + length book ≤ slice_index common.numbers 0
 
--- a store is lawful where its common object has a book, its number 0 is its stamp, and its reference 3 is the
--- board
+-- a store is lawful where its common object has a book, its number 0 is its stamp, and its
+-- reference 3 is the board
 pub record IsLawfulBook (s : PlainStore) : Type 0 where
   pub common : Contents
   pub there : contents_of s book_name ≡ Some common
@@ -64,8 +65,8 @@ pub record AppliesOrder (limits : Limits) (s : PlainStore) (q : ℕ) (stamp : �
   pub after : ShowsBook s record { stamp = stamp + 1; refs = refs; numbers = numbers } effect.book
   pub fills : slice_index numbers 9 ≡ slice_index common.numbers 9 + length effect.fills
 
--- in a lawful store each caller may create and fetch, may tell on the board how many of its file's orders it has
--- applied, and may apply an order
+-- in a lawful store each caller may create and fetch, may tell on the board how many of its file's
+-- orders it has applied, and may apply an order
 abbrev pub IsAllowedBook : Limits → List ℕ → PlainStore → Entry → Type 0
 IsAllowedBook limits lengths s (Create q n refs numbers) = Unit {0}
 IsAllowedBook limits lengths s (Fetch q n answer) = Unit {0}

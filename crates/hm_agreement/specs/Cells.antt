@@ -10,10 +10,8 @@ use Rattle.hm_model.specs.declared.object.Name.{Name}
 use Rattle.hm_model.specs.declared.object.Contents.{Contents}
 use Rattle.hm_model.specs.Store.{Numbers, PlainStore}
 use Rattle.hm_model.specs.Sight.{name_at}
-use Rattle.hm_list.specs.declared.key.Pair.{Pair}
-use Rattle.hm_list.specs.Pairs.{insert}
-use Rattle.hm_list.specs.Cells.{IsList}
 use Rattle.hm_book.specs.declared.book.Resting.{Resting}
+use Rattle.hm_agreement.specs.Lists.{Pair, insert, IsList}
 
 -- the heap starts with side object 3 alone, so the board is caller 0's first object
 abbrev pub board_name : Name
@@ -109,8 +107,8 @@ asks_of book = in_order (map ask_of (filter (λ r. is_selling r.side) book))
 abbrev pub ids_of : List Resting → List Pair
 ids_of book = in_order (map id_of book)
 
--- contents of the common object show a book: their references lead over cells with its bids, its asks and
--- its resting ids, and number 8 is its length
+-- contents of the common object show a book: their references lead over cells with its bids, its
+-- asks and its resting ids, and number 8 is its length
 pub record ShowsBook (s : PlainStore) (common : Contents) (book : List Resting) : Type 0 where
   pub bids : IsList (IsNode) s (name_at common.refs 0) (bids_of book)
   pub asks : IsList (IsNode) s (name_at common.refs 1) (asks_of book)

@@ -51,13 +51,14 @@ spelled_by (StoreIf q n stamp refs numbers (Changed found)) = None
 abbrev pub spelled : List Entry → List Order
 spelled history = filter_map spelled_by history
 
--- a heap starts with an empty book where all numbers are 0, and side object 3, the board, is the only one
+-- a heap starts with an empty book where all numbers are 0, and side object 3, the board, is the
+-- only one
 pub record IsBookStart (start : Start) : Type 0 where
   pub numbers : start.numbers ≡ replicate 10 0
   pub sides : start.sides ≡ None ∷ None ∷ None ∷ Some (replicate 10 0) ∷ []
 
--- a store has come to a state where its common object has the state's book and no other, and its numbers 0
--- and 9 count the orders applied and the fills
+-- a store has come to a state where its common object has the state's book and no other, and its
+-- numbers 0 and 9 count the orders applied and the fills
 pub record HasState (s : PlainStore) (state : BookState) : Type 0 where
   pub common : Contents
   pub there : contents_of s book_name ≡ Some common

@@ -5,6 +5,10 @@ use Rattle.hm_orders.specs.declared.order.Kind.{Kind}
 use Rattle.hm_orders.specs.declared.order.Kind.TheVariants.{Limit, Immediate, Market, Cancel}
 use Rattle.hm_book.specs.declared.limits.Limits.{Limits}
 
+-- the limits that admit every order that a row can give
+abbrev pub no_limits : Limits
+no_limits = record { max_quantity = 4294967295; low = 1; high = 4294967295 }
+
 -- the quantity is within the limits
 abbrev pub has_quantity : Limits → Order → Bool
 has_quantity limits order = nat_le order.quantity limits.max_quantity

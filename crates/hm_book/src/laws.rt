@@ -1,14 +1,18 @@
 //! Laws of the definitions that the contracts cite.
-ghost use Rattle.std.specs.Prelude.{◌≡◌, ◌↔◌, ◌<◌, ℕ, List, length, AllPairs, IfSome, IsNone};
+ghost use Rattle.std.specs.Prelude.{◌≡◌, ◌↔◌, ◌<◌, ℕ, List, length, AllPairs, IfSome, IsNone, IsTrue};
 ghost use Rattle.hm_orders.specs.declared.order.Order.{Order};
 ghost use Rattle.hm_orders.specs.declared.order.Side.{Side};
+ghost use Rattle.hm_orders.specs.Orders.{IsWellFormed};
 ghost use Rattle.hm_book.specs.declared.book.Resting.{Resting};
 ghost use Rattle.hm_book.specs.declared.limits.Limits.{Limits};
+ghost use Rattle.hm_book.specs.Limits.{admits, no_limits};
 ghost use Rattle.hm_book.specs.Trading.{best_opposite, trades};
 ghost use Rattle.hm_book.specs.Best.{IsBest, NoneOpposes};
 ghost use Rattle.hm_book.specs.Queue.{can_trade, traded_along, IsQueue};
 ghost use Rattle.hm_book.specs.Run.{empty_state, state_after, BookState};
 ghost use Rattle.hm_book.specs.Sound.{IsSound};
+
+use crate::limits::Limits;
 
 /// The best opposite order is in the book and opposes the side, and no other that does goes before it. There is none
 /// exactly where no order of the book opposes the side.
@@ -33,4 +37,10 @@ pub fn a_book_stays_sound()
     ensures empty { IsSound empty_state }
     ensures next { (limits : Limits) (state : BookState) (order : Order)
         → IsSound state → IsSound (state_after limits state order) }
+{}
+
+/// [`Limits::NONE`] are the widest limits: they admit every order that a row of an order file can give.
+pub fn no_limits_admit_every_order()
+    ensures widest { Limits.NONE ≡ no_limits }
+    ensures admits { (order : Order) → IsWellFormed order → IsTrue (admits no_limits order) }
 {}

@@ -16,7 +16,8 @@ pub struct Limits {
 }
 
 impl Limits {
-    /// The limits that admit every order that a row of an order file can give.
+    /// The limits that admit every order that a row of an order file can give, by the law
+    /// [`no_limits_admit_every_order`](crate::no_limits_admit_every_order).
     pub const NONE: Limits = Limits {
         max_quantity: u32::MAX,
         low: 1,

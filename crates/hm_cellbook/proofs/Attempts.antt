@@ -45,10 +45,10 @@ four_names (a ∷ b ∷ []) h = absurd (omega arith)
 four_names (a ∷ b ∷ c ∷ []) h = absurd (omega arith)
 four_names (a ∷ b ∷ c ∷ d ∷ e ∷ l) h = absurd (omega arith)
 
--- the common object was fetched after a whole fetch of it into places 4 to 7
-pub was_fetched : (c d : Sight BookUsage) (from hand : Root) (at : Snapshot) → hand.0 ≡ 4
+-- root place 0 was fetched after a whole fetch from it into places 4 to 7
+pub was_fetched : (c d : Sight BookUsage) (from hand : Root) (at : Snapshot) → from.0 ≡ 0 → hand.0 ≡ 4
     → root_of c from ≡ Some book_name → FetchesAll book_lawful book_allowed c d from hand at → WasFetched d at
-was_fetched c d from hand at four names h =
+was_fetched c d from hand at first four names h =
     let n : h.fetch.name ≡ book_name = let place = h.fetch.place in cc in
     let has = h.fetch.entry.history in
     let sized = (well_made_present book_lawful book_allowed d has).sized h.fetch.name h.answer h.fetch.now in
@@ -67,7 +67,10 @@ was_fetched c d from hand at four names h =
     ∙ ap (λ (s : Snapshot). record { stamp = s.stamp; refs = h.answer.refs; numbers = s.numbers }) h.value in
     let number = h.fetch.entry.caller.number in
     let same : Fetch c.number h.fetch.name h.answer ≡ Fetch d.number book_name (fetched_contents d at) = cc in
+    let here : name_at c.roots 0 ≡ Some book_name =
+    subst (λ (k : ℕ). name_at c.roots k ≡ Some book_name) first names in
     record {
+      place = h.roots.below 0 (omega arith) ∙ here;
       before = c.seen ++ h.fetch.entry.between;
       later = [];
       seen = h.fetch.entry.seen ∙ (sym

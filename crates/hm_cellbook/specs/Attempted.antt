@@ -1,5 +1,5 @@
 -- What an attempt at an order shows.
-use Rattle.std.specs.Prelude.{◌≡◌, ◌+◌, List, Some, slice_index}
+use Rattle.std.specs.Prelude.{◌≡◌, ℕ, ◌+◌, ◌≤◌, List, [], ◌∷◌, Some, slice_index}
 use Rattle.hm_orders.specs.declared.order.Order.{Order}
 use Rattle.hm_model.specs.declared.object.Contents.{Contents}
 use Rattle.hm_model.specs.declared.root.Snapshot.{Snapshot}
@@ -8,6 +8,7 @@ use Rattle.hm_book.specs.declared.book.Resting.{Resting}
 use Rattle.hm_book.specs.Run.{BookState, done_of, state_after}
 use Rattle.hm_agreement.specs.Cells.{board_name, HoldsOrder, ShowsBook}
 use Rattle.hm_cellbook.specs.declared.usage.BookUsage.{BookUsage}
+use Rattle.hm_list.specs.Places.{AreUnset}
 use Rattle.hm_list.specs.declared.key.Refused.{Refused}
 use Rattle.hm_list.specs.declared.key.Refused.TheVariants as refusal
 use Rattle.hm_cellbook.specs.declared.attempt.Attempt.{Attempt}
@@ -35,8 +36,8 @@ pub record TellsOrder (c : Sight BookUsage) (at : Snapshot) (order : Order) (att
   pub holds : HoldsOrder attempt.numbers order
   pub board : name_at (names_of c attempt.refs) 3 ≡ Some board_name
 
--- an attempt applies the order to a book where it tells what becomes of the order, and its contents show the
--- book that the order leaves and have the number of fills
+-- an attempt applies the order to a book where it tells what becomes of the order, and its contents
+-- show the book that the order leaves and have the number of fills
 pub record Applies (c : Sight BookUsage) (at : Snapshot) (order : Order) (book : List Resting)
     (attempt : Attempt) : Type 0 where
   pub done : attempt.done ≡ done_of c.usage.limits (state_at at book) order
@@ -44,3 +45,11 @@ pub record Applies (c : Sight BookUsage) (at : Snapshot) (order : Order) (book :
       (state_after c.usage.limits (state_at at book) order).book
   pub fills : slice_index attempt.numbers 9
       ≡ (state_after c.usage.limits (state_at at book) order).fills
+
+-- an attempt leaves its lists at places 8, 9 and 10 and the board at place 7; the places of walks, 11 to
+-- 16, are unset, and those from 17 on name what they named
+pub record LeavesPlaces (c d : Sight BookUsage) (attempt : Attempt) : Type 0 where
+  pub lists : names_of d attempt.refs
+      ≡ name_at d.roots 8 ∷ name_at d.roots 9 ∷ name_at d.roots 10 ∷ name_at d.roots 7 ∷ []
+  pub walks : AreUnset d 11 17
+  pub above : (k : ℕ) → 17 ≤ k → name_at d.roots k ≡ name_at c.roots k

@@ -1,5 +1,5 @@
 -- That the common object was fetched.
-use Rattle.std.specs.Prelude.{◌≡◌, List, [], ◌∷◌, ◌++◌}
+use Rattle.std.specs.Prelude.{◌≡◌, List, [], ◌∷◌, ◌++◌, Some}
 use Rattle.hm_model.specs.declared.object.Name.{Name}
 use Rattle.hm_model.specs.declared.object.Contents.{Contents}
 use Rattle.hm_model.specs.declared.entry.Entry.{Entry}
@@ -32,9 +32,11 @@ fetched_contents c at = record {
   numbers = at.numbers;
 }
 
--- the common object was fetched into places 4 to 7 where a beginning of what its caller has seen, a lawful
--- history, ends with its Fetch of those contents, and the snapshot is theirs
+-- root place 0 was fetched into places 4 to 7 where it names the common object, a beginning of what
+-- its caller has seen, a lawful history, ends with its Fetch of those contents, and the snapshot is
+-- theirs
 pub record WasFetched (c : Sight BookUsage) (at : Snapshot) : Type 0 where
+  pub place : name_at c.roots 0 ≡ Some book_name
   pub before : List Entry
   pub later : List Entry
   pub seen : c.seen ≡ before ++ Fetch c.number book_name (fetched_contents c at) ∷ later

@@ -6,11 +6,11 @@ use Rattle.hm_orders.specs.declared.report.Fate.{Fate}
 use Rattle.hm_orders.specs.declared.report.Fill.{Fill}
 use Rattle.hm_model.specs.declared.root.Root.{Root}
 use Rattle.hm_model.specs.Sight.{Sight}
-use Rattle.hm_list.specs.declared.key.Pair.{Pair}
 use Rattle.hm_list.specs.Cells.{pairs_at, HasList}
 use Rattle.hm_book.specs.declared.book.Resting.{Resting}
 use Rattle.hm_book.specs.Trading.{Traded}
 use Rattle.hm_book.specs.Effect.{Effect}
+use Rattle.hm_agreement.specs.Lists.{Pair}
 use Rattle.hm_agreement.specs.Cells.{IsInRange, bids_of, asks_of, ids_of}
 use Rattle.hm_cellbook.specs.declared.usage.BookUsage.{BookUsage}
 use Rattle.hm_cellbook.specs.Fetched.{book_node}
@@ -42,8 +42,8 @@ pub record WorksOn (c : Sight BookUsage) (book : List Resting) : Type 0 where
 abbrev pub IsWorking : Sight BookUsage → Type 0
 IsWorking c = (book : List Resting) × WorksOn c book
 
--- an order with a root number begins on a book of so many resting orders, on which its caller works, where
--- all of these have lesser root numbers
+-- an order with a root number begins on a book of so many resting orders, on which its caller
+-- works, where all of these have lesser root numbers
 pub record BeginsOn (c : Sight BookUsage) (root resting : ℕ) (book : List Resting) : Type 0 where
   pub works : WorksOn c book
   pub count : length book ≡ resting
@@ -53,8 +53,8 @@ pub record BeginsOn (c : Sight BookUsage) (root resting : ℕ) (book : List Rest
 abbrev pub Begins : Sight BookUsage → ℕ → ℕ → Type 0
 Begins c root resting = (book : List Resting) × BeginsOn c root resting book
 
--- an order has traded as it should where its caller works on the book that trading leaves, and the fills,
--- what is left of the order and the number of resting orders are those of that trading
+-- an order has traded as it should where its caller works on the book that trading leaves, and the
+-- fills, what is left of the order and the number of resting orders are those of that trading
 pub record HasTraded (c : Sight BookUsage) (traded : Traded) (made : List Fill) (rest count : ℕ)
     : Type 0 where
   pub works : WorksOn c traded.book
@@ -62,8 +62,8 @@ pub record HasTraded (c : Sight BookUsage) (traded : Traded) (made : List Fill) 
   pub left : rest ≡ traded.left
   pub resting : count ≡ length traded.book
 
--- an order has had an effect where its caller works on the book that it leaves, and the fate, the fills and
--- the number of resting orders are those of the effect
+-- an order has had an effect where its caller works on the book that it leaves, and the fate, the
+-- fills and the number of resting orders are those of the effect
 pub record HasEffect (c : Sight BookUsage) (effect : Effect) (told : Fate) (made : List Fill)
     (count : ℕ) : Type 0 where
   pub works : WorksOn c effect.book

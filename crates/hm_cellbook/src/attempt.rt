@@ -11,10 +11,10 @@ ghost use Rattle.hm_book.specs.declared.book.Resting.{Resting};
 ghost use Rattle.hm_book.specs.Limits.{admits};
 ghost use Rattle.hm_book.specs.Run.{next_effect};
 ghost use Rattle.hm_agreement.specs.Agreed.{HasBook};
-ghost use Rattle.hm_agreement.specs.Cells.{HoldsOrder, book_name, kind_number};
+ghost use Rattle.hm_agreement.specs.Cells.{HoldsOrder, kind_number};
 ghost use Rattle.hm_cellbook.specs.Cost.{cost};
 ghost use Rattle.hm_cellbook.specs.Fetched.{book_allowed, book_lawful, fetched_contents, WasFetched};
-ghost use Rattle.hm_cellbook.specs.Attempted.{state_at, Applies, TellsOrder};
+ghost use Rattle.hm_cellbook.specs.Attempted.{state_at, Applies, LeavesPlaces, TellsOrder};
 
 use crate::outcome::apply;
 use crate::pairs::side_number;
@@ -138,13 +138,15 @@ fn build_next<C: Caller<BookUsage>>(
     requires limit { o.now.kind ≡ Limit }
     requires well_formed { IsWellFormed o.now }
     requires stamp { at.now.stamp < 18446744073709551615 }
+    ensures shown { (book : List Resting)
+        × HasBook (present (C.sight c.old)) (fetched_contents (C.sight c.old) at.now) book }
     ensures applies { IfOk result (λ a. (book : List Resting)
         → HasBook (present (C.sight c.old)) (fetched_contents (C.sight c.old) at.now) book
         → Applies (C.sight c.new) at.now o.now book a) }
     ensures tells { IfOk result (TellsOrder (C.sight c.new) at.now o.now) }
     ensures set { IfOk result (λ a. AreSet (C.sight c.new) a.refs) }
-    ensures allowed { IfOk result (λ a. name_at (C.sight c.new).roots 0 ≡ Some book_name
-        → o.now.file ≡ (C.sight c.new).number + 1
+    ensures places { IfOk result (LeavesPlaces (C.sight c.old) (C.sight c.new)) }
+    ensures allowed { IfOk result (λ a. o.now.file ≡ (C.sight c.new).number + 1
         → MayStoreIf book_lawful book_allowed (C.sight c.new) (record { 0 = 0 })
         at.now.stamp a.refs a.numbers) }
     ensures builds { (book : List Resting)
@@ -174,11 +176,14 @@ fn build_next<C: Caller<BookUsage>>(
     })
 }
 
-/// Builds what an order makes of the book that the fetch of the common object into root places 4 to 7 answered.
+/// Builds what an order makes of the book that the fetch of root place 0, which names the common object, into places 4
+/// to 7 answered. There was one: what was fetched has just one book.
 ///
-/// It makes cells and stores to no object. Places below 8 name what they named, and after a refusal all places from 8
-/// on are unset. [`AttemptRefused::Full`] comes only where the caller's room is 0 as the call answers. A conditional
-/// store of the attempt with the snapshot's stamp is allowed to the caller whose file the order is of.
+/// It makes cells and stores to no object. Places below 8 name what they named. Where it answers an attempt, its lists
+/// are named at places 8, 9 and 10, places 11 to 16 are unset, and those from 17 on name what they named; after a refusal
+/// all places from 8 on are unset. [`AttemptRefused::Full`] comes only where the caller's room is 0 as the call answers.
+/// A conditional store of the attempt at place 0 with the snapshot's stamp is allowed to the caller whose file the order
+/// is of.
 pub fn cell_apply<C: Caller<BookUsage>>(
     alloc: Global,
     c: &mut C,
@@ -192,13 +197,15 @@ pub fn cell_apply<C: Caller<BookUsage>>(
     requires limit { o.now.kind ≡ Limit }
     requires well_formed { IsWellFormed o.now }
     requires stamp { at.now.stamp < 18446744073709551615 }
+    ensures shown { (book : List Resting)
+        × HasBook (present (C.sight c.old)) (fetched_contents (C.sight c.old) at.now) book }
     ensures applies { IfOk result (λ a. (book : List Resting)
         → HasBook (present (C.sight c.old)) (fetched_contents (C.sight c.old) at.now) book
         → Applies (C.sight c.new) at.now o.now book a) }
     ensures tells { IfOk result (TellsOrder (C.sight c.new) at.now o.now) }
     ensures set { IfOk result (λ a. AreSet (C.sight c.new) a.refs) }
-    ensures allowed { IfOk result (λ a. name_at (C.sight c.new).roots 0 ≡ Some book_name
-        → o.now.file ≡ (C.sight c.new).number + 1
+    ensures places { IfOk result (LeavesPlaces (C.sight c.old) (C.sight c.new)) }
+    ensures allowed { IfOk result (λ a. o.now.file ≡ (C.sight c.new).number + 1
         → MayStoreIf book_lawful book_allowed (C.sight c.new) (record { 0 = 0 })
         at.now.stamp a.refs a.numbers) }
     ensures builds { (book : List Resting)

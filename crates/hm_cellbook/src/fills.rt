@@ -2,7 +2,7 @@
 ghost use Rattle.std.specs.Prelude.{◌≡◌, ◌+◌, ◌*◌, ◌<◌, ◌≤◌, nat_le, if◌then◌else◌, ℕ, List, Err, IfOk, OnOk, length, option_and_then, Contains};
 ghost use Rattle.hm_orders.specs.Orders.{IsTradingSide};
 ghost use Rattle.hm_model.specs.Building.{Builds};
-ghost use Rattle.hm_list.specs.Places.{SameOutside};
+ghost use Rattle.hm_list.specs.Places.{AreUnset, SameOutside};
 ghost use Rattle.hm_book.specs.declared.book.Resting.{Resting};
 ghost use Rattle.hm_book.specs.Trading.{after_fill, best_opposite, if_crossed, trades};
 ghost use Rattle.hm_cellbook.specs.Fetched.{book_allowed, book_lawful};
@@ -48,6 +48,7 @@ fn next_maker<C: Caller<BookUsage>>(c: &mut C, order: &Order) -> Option<Resting>
         → WorksOn (C.sight c.new) book }
     ensures builds { Builds book_lawful book_allowed (C.sight c.old) (C.sight c.new) 0 }
     ensures others { SameOutside (C.sight c.old) (C.sight c.new) 8 17 }
+    ensures unset { AreUnset (C.sight c.new) 11 17 }
 {
     let side = opposite(order.side);
     let pair = first(c, place_of(side), TOP)?;
@@ -69,6 +70,7 @@ fn put_back<C: Caller<BookUsage>>(
     ensures builds { (book : List Resting) → WorksOn (C.sight c.old) book
         → Builds book_lawful book_allowed (C.sight c.old) (C.sight c.new) (2 * (length book + 9)) }
     ensures others { SameOutside (C.sight c.old) (C.sight c.new) 8 17 }
+    ensures unset { AreUnset (C.sight c.new) 11 17 }
     ensures full { result ≡ Err AttemptRefused.Full → (C.sight c.new).room ≡ 0 }
 {
     let kept = Resting {
@@ -93,6 +95,7 @@ fn take_out<C: Caller<BookUsage>>(
     ensures builds { (book : List Resting) → WorksOn (C.sight c.old) book
         → Builds book_lawful book_allowed (C.sight c.old) (C.sight c.new) (2 * (length book + 9)) }
     ensures others { SameOutside (C.sight c.old) (C.sight c.new) 8 17 }
+    ensures unset { AreUnset (C.sight c.new) 11 17 }
     ensures full { result ≡ Err AttemptRefused.Full → (C.sight c.new).room ≡ 0 }
 {
     remove(alloc, c, place_of(maker.side), key_on(maker), TOP)?;
@@ -116,6 +119,7 @@ fn take_from<C: Caller<BookUsage>>(
     ensures builds { (book : List Resting) → WorksOn (C.sight c.old) book
         → Builds book_lawful book_allowed (C.sight c.old) (C.sight c.new) (2 * (length book + 9)) }
     ensures others { SameOutside (C.sight c.old) (C.sight c.new) 8 17 }
+    ensures unset { AreUnset (C.sight c.new) 11 17 }
     ensures full { result ≡ Err AttemptRefused.Full → (C.sight c.new).room ≡ 0 }
 {
     if maker.quantity <= quantity {
@@ -138,6 +142,7 @@ pub(crate) fn trade<C: Caller<BookUsage>>(
 ) -> Result<Trading, AttemptRefused>
     requires begins { Begins (C.sight c.old) root resting }
     requires trading { IsTradingSide order.now.side }
+    requires unset { AreUnset (C.sight c.old) 11 17 }
     requires numbers { made + resting < 18446744073709551615 }
     ensures traded { IfOk result (λ t. (book : List Resting)
         → BeginsOn (C.sight c.old) root resting book → HasTraded (C.sight c.new)
@@ -148,6 +153,7 @@ pub(crate) fn trade<C: Caller<BookUsage>>(
         (trades (length book) order.now root (made + 1) order.now.quantity book).fills
         * (length book + 9)) }
     ensures others { SameOutside (C.sight c.old) (C.sight c.new) 8 17 }
+    ensures unset { AreUnset (C.sight c.new) 11 17 }
     ensures full { result ≡ Err AttemptRefused.Full → (C.sight c.new).room ≡ 0 }
 {
     let mut fills = Vec::new(alloc);

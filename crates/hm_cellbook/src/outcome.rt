@@ -3,7 +3,7 @@ ghost use Rattle.std.specs.Prelude.{◌≡◌, ◌+◌, ◌*◌, ◌<◌, [], �
 ghost use Rattle.hm_orders.specs.declared.order.Kind.TheVariants.{Limit};
 ghost use Rattle.hm_orders.specs.Orders.{IsTradingSide, IsWellFormed};
 ghost use Rattle.hm_model.specs.Building.{Builds};
-ghost use Rattle.hm_list.specs.Places.{SameOutside};
+ghost use Rattle.hm_list.specs.Places.{AreUnset, SameOutside};
 ghost use Rattle.hm_book.specs.declared.book.Resting.{Resting};
 ghost use Rattle.hm_book.specs.Effect.{rests, trade_effect};
 ghost use Rattle.hm_cellbook.specs.Cost.{cells_cost};
@@ -39,6 +39,7 @@ fn is_repeated<C: Caller<BookUsage>>(c: &mut C, file: u32, id: u32) -> bool
         → WorksOn (C.sight c.new) book }
     ensures builds { Builds book_lawful book_allowed (C.sight c.old) (C.sight c.new) 0 }
     ensures others { SameOutside (C.sight c.old) (C.sight c.new) 8 17 }
+    ensures unset { AreUnset (C.sight c.new) 11 17 }
 {
     find(c, ids_place(), id_key(file, id), TOP).is_some()
 }
@@ -57,6 +58,7 @@ fn rest<C: Caller<BookUsage>>(
     ensures builds { (book : List Resting) → WorksOn (C.sight c.old) book
         → Builds book_lawful book_allowed (C.sight c.old) (C.sight c.new) (2 * (length book + 9)) }
     ensures others { SameOutside (C.sight c.old) (C.sight c.new) 8 17 }
+    ensures unset { AreUnset (C.sight c.new) 11 17 }
     ensures full { result ≡ Err AttemptRefused.Full → (C.sight c.new).room ≡ 0 }
 {
     put(alloc, c, place_of(resting.side), pair_on(resting), TOP)?;
@@ -85,6 +87,7 @@ pub(crate) fn apply<C: Caller<BookUsage>>(
         → Builds book_lawful book_allowed (C.sight c.old) (C.sight c.new)
         (cells_cost (length (trade_effect order.now root made book).fills) (length book)) }
     ensures others { SameOutside (C.sight c.old) (C.sight c.new) 8 17 }
+    ensures unset { AreUnset (C.sight c.new) 11 17 }
     ensures full { result ≡ Err AttemptRefused.Full → (C.sight c.new).room ≡ 0 }
 {
     if is_repeated(c, order.file, order.id) {

@@ -77,10 +77,11 @@ module _ {U : Type 0} (node : U → PlainStore → Name → Type 0) (lawful : U 
     pub answered : {T E : Type 0} (c d f : Sight U) (list : Root) (ps : List Pair) (most : ℕ) (r : Result T E)
         → Builds lawful allowed c d most → Rests d f → root_of f list ≡ root_of d list → HasList node c list → AreInOrder ps
         → OnOk r (LeadsTo node d list ps) → OnErr r (root_of d list ≡ root_of c list)
-        → HasList node f list × OnOk r (pairs_at f list ≡ ps)
+        → HasList node f list × OnOk r (pairs_at f list ≡ ps) × OnErr r (pairs_at f list ≡ pairs_at c list)
     answered c d f list ps most (Ok x) builds rests same has order put kept =
         let now : LeadsTo node f list ps = subst (λ (o : Option Name). IsList (node f.usage) (present f) o ps) (sym same)
         (list_rests node d f rests (root_of d list) ps put) in
-        listed node f list ps now order
+        let l = listed node f list ps now order in (l.0, l.1, tt)
     answered c d f list ps most (Err e) builds rests same has order put kept =
-        ((list_stays_rests node lawful allowed laws c d f list most builds rests (same ∙ kept) has).0, tt)
+        let l = list_stays_rests node lawful allowed laws c d f list most builds rests (same ∙ kept) has in
+        (l.0, tt, l.1)

@@ -130,7 +130,7 @@ fn insert_pair<U: NodeUsage, C: Caller<U>>(
     ensures others { SameOutsideBut (C.sight c.old) (C.sight c.new) top.0 (top.0 + 6) list.0 }
     ensures put { OnOk result (LeadsTo U.node (C.sight c.new) list
         (insert pair (pairs_at (C.sight c.old) list))) }
-    ensures kept { OnErr result (root_of (C.sight c.new) list ≡ root_of (C.sight c.old) list) }
+    ensures names { OnErr result (root_of (C.sight c.new) list ≡ root_of (C.sight c.old) list) }
     ensures full { result ≡ Err Refused.Full → (C.sight c.new).room ≡ 0 }
 {
     let Ok(front) = seek(alloc, c, list, pair.key, top) else {
@@ -148,9 +148,10 @@ fn insert_pair<U: NodeUsage, C: Caller<U>>(
 
 /// Puts the pair in, in place of one with the same key.
 ///
-/// After a refusal the place names what it named. [`Refused::Full`] comes only where the caller's room is 0 as the call
-/// answers. The call fetches, and makes at most one cell more than the list has; after [`Refused::Memory`] it has made
-/// none. It takes the six places from `top` on as its own and leaves them unset, also after a refusal.
+/// After a refusal the list is as it was, and the place names what it named. [`Refused::Full`] comes only where the
+/// caller's room is 0 as the call answers. The call fetches, and makes at most one cell more than the list has; after
+/// [`Refused::Memory`] it has made none. It takes the six places from `top` on as its own and leaves them unset, also
+/// after a refusal.
 pub fn put<U: NodeUsage, C: Caller<U>>(
     alloc: Global,
     c: &mut C,
@@ -170,7 +171,8 @@ pub fn put<U: NodeUsage, C: Caller<U>>(
     ensures listed { HasList U.node (C.sight c.new) list }
     ensures put { OnOk result (pairs_at (C.sight c.new) list
         ≡ insert pair (pairs_at (C.sight c.old) list)) }
-    ensures kept { OnErr result (root_of (C.sight c.new) list ≡ root_of (C.sight c.old) list) }
+    ensures kept { OnErr result (pairs_at (C.sight c.new) list ≡ pairs_at (C.sight c.old) list) }
+    ensures names { OnErr result (root_of (C.sight c.new) list ≡ root_of (C.sight c.old) list) }
     ensures full { result ≡ Err Refused.Full → (C.sight c.new).room ≡ 0 }
 {
     let answer = insert_pair(alloc, c, list, pair, top);
@@ -191,14 +193,15 @@ fn delete_key<U: NodeUsage, C: Caller<U>>(
     requires below { list.0 < top.0 }
     ensures builds { Builds U.lawful U.allowed (C.sight c.old) (C.sight c.new)
         (length (pairs_at (C.sight c.old) list)) }
-    ensures absent { result ≡ Ok false → Builds U.lawful U.allowed (C.sight c.old) (C.sight c.new) 0 }
+    ensures absent { result ≡ Ok false
+        → Builds U.lawful U.allowed (C.sight c.old) (C.sight c.new) 0 }
     ensures memory { result ≡ Err Refused.Memory
         → Builds U.lawful U.allowed (C.sight c.old) (C.sight c.new) 0 }
     ensures others { SameOutsideBut (C.sight c.old) (C.sight c.new) top.0 (top.0 + 6) list.0 }
     ensures found { IfOk result (λ b. b ≡ is_some (lookup key (pairs_at (C.sight c.old) list))) }
     ensures removed { OnOk result (LeadsTo U.node (C.sight c.new) list
         (delete key (pairs_at (C.sight c.old) list))) }
-    ensures kept { OnErr result (root_of (C.sight c.new) list ≡ root_of (C.sight c.old) list) }
+    ensures names { OnErr result (root_of (C.sight c.new) list ≡ root_of (C.sight c.old) list) }
     ensures same { result ≡ Ok false → root_of (C.sight c.new) list ≡ root_of (C.sight c.old) list }
     ensures full { result ≡ Err Refused.Full → (C.sight c.new).room ≡ 0 }
 {
@@ -217,9 +220,10 @@ fn delete_key<U: NodeUsage, C: Caller<U>>(
 
 /// Takes the key out. False exactly where it was not there; then the place names what it named and nothing is made.
 ///
-/// After a refusal the place names what it named. [`Refused::Full`] comes only where the caller's room is 0 as the call
-/// answers. The call fetches, and makes at most as many cells as the list has; after [`Refused::Memory`] it has made
-/// none. It takes the six places from `top` on as its own and leaves them unset, also after a refusal.
+/// After a refusal the list is as it was, and the place names what it named. [`Refused::Full`] comes only where the
+/// caller's room is 0 as the call answers. The call fetches, and makes at most as many cells as the list has; after
+/// [`Refused::Memory`] it has made none. It takes the six places from `top` on as its own and leaves them unset, also
+/// after a refusal.
 pub fn remove<U: NodeUsage, C: Caller<U>>(
     alloc: Global,
     c: &mut C,
@@ -232,7 +236,8 @@ pub fn remove<U: NodeUsage, C: Caller<U>>(
     requires below { list.0 < top.0 }
     ensures builds { Builds U.lawful U.allowed (C.sight c.old) (C.sight c.new)
         (length (pairs_at (C.sight c.old) list)) }
-    ensures absent { result ≡ Ok false → Builds U.lawful U.allowed (C.sight c.old) (C.sight c.new) 0 }
+    ensures absent { result ≡ Ok false
+        → Builds U.lawful U.allowed (C.sight c.old) (C.sight c.new) 0 }
     ensures memory { result ≡ Err Refused.Memory
         → Builds U.lawful U.allowed (C.sight c.old) (C.sight c.new) 0 }
     ensures others { SameOutsideBut (C.sight c.old) (C.sight c.new) top.0 (top.0 + 6) list.0 }
@@ -241,7 +246,8 @@ pub fn remove<U: NodeUsage, C: Caller<U>>(
     ensures found { IfOk result (λ b. b ≡ is_some (lookup key (pairs_at (C.sight c.old) list))) }
     ensures removed { OnOk result (pairs_at (C.sight c.new) list
         ≡ delete key (pairs_at (C.sight c.old) list)) }
-    ensures kept { OnErr result (root_of (C.sight c.new) list ≡ root_of (C.sight c.old) list) }
+    ensures kept { OnErr result (pairs_at (C.sight c.new) list ≡ pairs_at (C.sight c.old) list) }
+    ensures names { OnErr result (root_of (C.sight c.new) list ≡ root_of (C.sight c.old) list) }
     ensures same { result ≡ Ok false → root_of (C.sight c.new) list ≡ root_of (C.sight c.old) list }
     ensures full { result ≡ Err Refused.Full → (C.sight c.new).room ≡ 0 }
 {

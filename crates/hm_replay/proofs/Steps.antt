@@ -46,7 +46,7 @@ pub fetch_present : (c d : Sight BookUsage) (from hand : Root) (at : Snapshot) �
     → KeepsBook c → FetchesAll book_lawful book_allowed c d from hand at → IsPresent d at
 fetch_present c d from hand at first four keeps h =
     let names : root_of c from ≡ Some book_name = rw first keeps.common in
-    let w : WasFetched d at = was_fetched c d from hand at four names h in
+    let w : WasFetched d at = was_fetched c d from hand at first four names h in
     let r = read_store d at w in
     let now : contents_of (present d) book_name ≡ Some h.answer =
     let place = h.fetch.place in let held = h.fetch.now in cc in
@@ -117,8 +117,7 @@ module _ (c d : Sight BookUsage) (at : Snapshot) (order : Order) (keeps : KeepsB
   -- and may be stored
   pub attempt_may : (a : Attempt) → ((k : ℕ) → k < 8 → name_at d.roots k ≡ name_at c.roots k)
       → AreSet d a.refs → order.file ≡ 1
-      → (name_at d.roots 0 ≡ Some book_name → order.file ≡ d.number + 1
-      → MayStoreIf book_lawful book_allowed d (record { 0 = 0 }) at.stamp a.refs a.numbers)
+      → (order.file ≡ d.number + 1 → MayStoreIf book_lawful book_allowed d (record { 0 = 0 }) at.stamp a.refs a.numbers)
       → MayBeStored d at.stamp a
   attempt_may a names set file allowed = record {
     unchanged = record {
@@ -127,7 +126,6 @@ module _ (c d : Sight BookUsage) (at : Snapshot) (order : Order) (keeps : KeepsB
       is = refl;
     };
     set = set;
-    allowed = allowed (names 0 (omega arith) ∙ keeps.common)
-        (file ∙ sym (ap (λ (k : ℕ). k + 1) plain.number));
+    allowed = allowed (file ∙ sym (ap (λ (k : ℕ). k + 1) plain.number));
     board = names 7 (omega arith) ∙ fetched_board c at here.fetched;
   }

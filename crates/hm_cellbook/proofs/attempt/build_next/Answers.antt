@@ -69,6 +69,14 @@ returns-clause-builds g c = λ book has.
     c.requires.admitted (at.stamp + 1) refl
     copied (g.C.Caller.sight c.apply.new.c) e.rests (c.apply.ensures.builds book begins)
 
+pub returns-in_err-outcome-clause-shown : goal.returns-in_err-outcome-clause-shown
+returns-in_err-outcome-clause-shown g c =
+    fetched_book (g.C.Caller.sight c.args.c.now) c.args.at.now c.requires.fetched
+
+pub returns-clause-shown : goal.returns-clause-shown
+returns-clause-shown g c =
+    fetched_book (g.C.Caller.sight c.args.c.now) c.args.at.now c.requires.fetched
+
 pub returns-clause-applies : goal.returns-clause-applies
 returns-clause-applies g c = λ book has.
     let before = g.C.Caller.sight c.args.c.now in
@@ -107,10 +115,12 @@ returns-clause-tells g c =
     c.numbers_of-numbers.ensures.root c.numbers_of-numbers.ensures.holds
 
 pub returns-clause-allowed : goal.returns-clause-allowed
-returns-clause-allowed g c = λ names file.
+returns-clause-allowed g c = λ file.
     let before = g.C.Caller.sight c.args.c.now in
     let at = c.args.at.now in
     let b = fetched_book before at c.requires.fetched in
+    let names = c.apply.ensures.others.below 0 (omega arith)
+    ∙ (c.copy_lists.ensures.others.below 0 (omega arith) ∙ c.requires.fetched.place) in
     may_store_attempt before (g.C.Caller.sight c.apply.new.c) at c.requires.fetched _
     (returns-clause-builds g c b.0 b.1) c.args.o.now _
     c.requires.well_formed c.fits-o.1.0.1 (returns-clause-applies g c)

@@ -41,6 +41,7 @@ loop-left-init g c =
       trades = λ book h. trades_start_at before c.args.order.now c.args.root c.args.made book c.args.resting
           c.new-fills.result.items c.new-fills.ensures.items h;
       others = outside_none before 8 17;
+      unset = c.requires.unset;
     }
 
 pub loop-left-preserved : goal.loop-left-preserved
@@ -67,6 +68,7 @@ loop-left-preserved g c =
           (c.in_ok-remaining.ensures.taken t.work works there) c.in_ok-remaining.ensures.out);
       others = outside_then before now taken 8 17 c.loop-left.invariant.others
           (outside_then now looked taken 8 17 c.next_maker.ensures.others c.take_from.ensures.others);
+      unset = c.take_from.ensures.unset;
     }
 
 pub returns-in_err-push-clause-builds : goal.returns-in_err-push-clause-builds

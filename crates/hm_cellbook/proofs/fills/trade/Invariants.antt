@@ -1,5 +1,5 @@
 use Rattle.std.proofs.Common.{List}
-use Rattle.hm_list.specs.Places.{SameOutside}
+use Rattle.hm_list.specs.Places.{AreUnset, SameOutside}
 use Rattle.hm_book.specs.declared.book.Resting.{Resting}
 use Rattle.hm_cellbook.specs.Working.{BeginsOn}
 use Rattle.hm_cellbook.proofs.Trades.{Trades}
@@ -12,6 +12,7 @@ invariant-loop-left g l =
       trades : (book : List Resting) → BeginsOn c l.root l.resting book
           → Trades c d l.order l.root l.made book l.fills.items l.left l.remaining;
       others : SameOutside c d 8 17;
+      unset : AreUnset d 11 17;
     }
 
 abbrev pub decreases-loop-left : goal.decreases-loop-left

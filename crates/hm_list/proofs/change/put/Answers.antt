@@ -11,7 +11,7 @@ returns-clause-listed g c =
     let pairs = pairs_at before c.args.list in
     let e = c.insert_pair-answer.ensures in
     (answered g.U.NodeUsage.node g.U.Usage.lawful g.U.Usage.allowed g.met.U.NodeUsage.node_laws before (g.C.Caller.sight c.insert_pair-answer.new.c) (g.C.Caller.sight c.clear_places.new.c) c.args.list (insert c.args.pair pairs) (length pairs + 1) c.insert_pair-answer.result
-    e.builds c.clear_places.ensures.rests (c.clear_places.ensures.others.below c.args.list.0 c.requires.below) c.requires.list (insert_in_order c.args.pair pairs c.requires.list.order) e.put e.kept).0
+    e.builds c.clear_places.ensures.rests (c.clear_places.ensures.others.below c.args.list.0 c.requires.below) c.requires.list (insert_in_order c.args.pair pairs c.requires.list.order) e.put e.names).0
 
 pub returns-clause-put : goal.returns-clause-put
 returns-clause-put g c =
@@ -19,4 +19,12 @@ returns-clause-put g c =
     let pairs = pairs_at before c.args.list in
     let e = c.insert_pair-answer.ensures in
     (answered g.U.NodeUsage.node g.U.Usage.lawful g.U.Usage.allowed g.met.U.NodeUsage.node_laws before (g.C.Caller.sight c.insert_pair-answer.new.c) (g.C.Caller.sight c.clear_places.new.c) c.args.list (insert c.args.pair pairs) (length pairs + 1) c.insert_pair-answer.result
-    e.builds c.clear_places.ensures.rests (c.clear_places.ensures.others.below c.args.list.0 c.requires.below) c.requires.list (insert_in_order c.args.pair pairs c.requires.list.order) e.put e.kept).1
+    e.builds c.clear_places.ensures.rests (c.clear_places.ensures.others.below c.args.list.0 c.requires.below) c.requires.list (insert_in_order c.args.pair pairs c.requires.list.order) e.put e.names).1
+
+pub returns-clause-kept : goal.returns-clause-kept
+returns-clause-kept g c =
+    let before = g.C.Caller.sight c.args.c.now in
+    let pairs = pairs_at before c.args.list in
+    let e = c.insert_pair-answer.ensures in
+    (answered g.U.NodeUsage.node g.U.Usage.lawful g.U.Usage.allowed g.met.U.NodeUsage.node_laws before (g.C.Caller.sight c.insert_pair-answer.new.c) (g.C.Caller.sight c.clear_places.new.c) c.args.list (insert c.args.pair pairs) (length pairs + 1) c.insert_pair-answer.result
+    e.builds c.clear_places.ensures.rests (c.clear_places.ensures.others.below c.args.list.0 c.requires.below) c.requires.list (insert_in_order c.args.pair pairs c.requires.list.order) e.put e.names).2
