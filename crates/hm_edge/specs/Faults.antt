@@ -1,4 +1,4 @@
--- Counts of faults: a 64-bit number that never falls.
+-- Counts of faults and of puts: 64-bit numbers that never fall.
 use Rattle.std.specs.Prelude.{ℕ, ◌+◌, ◌≤◌, min}
 
 -- the greatest count, at which a count stands still
@@ -8,6 +8,10 @@ last_count = 18446744073709551615
 -- the count after one more
 abbrev pub next_count : ℕ → ℕ
 next_count count = min (count + 1) last_count
+
+-- the count after so many more
+abbrev pub count_after : ℕ → ℕ → ℕ
+count_after more count = min (count + more) last_count
 
 -- the count rose: it is greater, or at its type's end
 abbrev pub Rose : ℕ → ℕ → Type 0

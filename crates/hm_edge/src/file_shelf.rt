@@ -1,5 +1,5 @@
 //! A shelf over files.
-ghost use Rattle.std.specs.Prelude.{◌≡◌, ℕ, ◌<◌, ◌≤◌, List, length, None, IfSome, Err, OnOk, OnErr};
+ghost use Rattle.std.specs.Prelude.{◌≡◌, ◌≢◌, ℕ, ◌<◌, ◌≤◌, List, length, None, IfSome, Err, OnOk, OnErr};
 ghost use Rattle.hm_edge.specs.Faults.{Rose};
 ghost use Rattle.hm_edge.specs.Shelves.{Appends, failed_after, faults_after};
 
@@ -49,6 +49,7 @@ impl<R: Files> Shelf for FileShelf<R> {
         ensures long { result ≡ Err ShelfRefused.Long
             → IfSome {T = List ℕ} None (λ bytes. limit < length bytes) }
         ensures failed { result ≡ Err ShelfRefused.Failed → Rose self.old self.new }
+        ensures unfailed { result ≢ Err ShelfRefused.Failed → self.new ≡ self.old }
         ensures faults { self.old ≤ self.new }
         ensures failures { None ≡ failed_after result name.now None }
         ensures same { (other : List ℕ) → ⟦<FileShelf<R> as Shelf>⟧.told self.new other

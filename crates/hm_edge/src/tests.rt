@@ -5,7 +5,7 @@ use crate::file_shelf::FileShelf;
 use crate::memory_shelf::MemoryShelf;
 use crate::memory_sink::{MemorySink, SinkFail};
 use crate::shelf::{Shelf, ShelfRefused};
-use crate::sink::{Sink, SinkFailed};
+use crate::sink::{Finish, Sink, SinkFailed};
 use crate::stream_sink::{STREAM_CAPACITY, StreamSink};
 use std::alloc::{AllocError, Global};
 use std::io::{Error, ErrorKind, Write};
