@@ -1,33 +1,35 @@
--- What a read to the end through a limit has appended.
-use Rattle.std.proofs.Common.{◌≡◌, ℕ, ◌+◌, ◌≤◌, ◌<◌, List, ◌++◌, length, take, drop, None, Some, IfSome, sym, ap, ◌∙◌, arith, length-append, length-take, length-drop, take-append-drop, take_all}
-use Rattle.std.specs.Prelude.{Option, option_map}
-use Rattle.std.specs.Io.{StartsWith}
-use Rattle.hm_edge.specs.Shelves.{Appends}
+-- What a bounded read of a reader has moved.
+use Rattle.std.proofs.Common.{◌≡◌, ℕ, ◌+◌, ◌≤◌, List, ◌++◌, length, ap, ◌∙◌, append_assoc, arith, length-append}
+use Rattle.std.specs.Prelude.{Option}
+use Rattle.std.specs.Io.KnownBytes.{Consumes, Keeps}
+use Rattle.std.proofs.KnownBytes.{Consumes-trans, Consumes-kept}
+use Rattle.hm_edge.specs.Reading.{GivesAtMost, Reads}
 
--- fewer bytes than were asked for are all that there were
-pub Appends-below : (told : Option (List ℕ)) (limit most count : ℕ) (old new : List ℕ) → StartsWith new old → IfSome (option_map (take most) told) (λ bytes. new ≡ old ++ bytes) → length new ≡ length old + count → count ≤ limit → count < most → Appends told limit old new
-Appends-below None limit most count old new starts all grown within below = record {
-  bytes = drop (length old) new;
-  whole = sym (take-append-drop (length old) new) ∙ ap (λ l. l ++ drop (length old) new) starts;
-  within = omega (arith, length-drop (length old) new);
-  honest = tt;
+module _ (a b c : Option (List ℕ)) (count n : ℕ) (old mid bytes : List ℕ) (size : length bytes ≡ n)
+    (so_far : Reads count a b old mid) (given : Consumes b c bytes) where
+  -- what was read, and then more
+  pub Reads-more : Reads (count + n) a c old (mid ++ bytes)
+  Reads-more = record {
+    bytes = so_far.bytes ++ bytes;
+    size = omega (arith, length-append so_far.bytes bytes, so_far.size, size);
+    given = Consumes-trans a b c so_far.bytes bytes so_far.given given;
+    appended = ap (λ l. l ++ bytes) so_far.appended ∙ append_assoc old so_far.bytes bytes;
+  }
+
+  -- what was read, and then more that was lost
+  pub GivesAtMost-more : (most : ℕ) → count + n ≤ most → GivesAtMost most a c
+  GivesAtMost-more most within = record {
+    bytes = so_far.bytes ++ bytes;
+    within = omega (arith, length-append so_far.bytes bytes, so_far.size, size);
+    given = Consumes-trans a b c so_far.bytes bytes so_far.given given;
+  }
+
+-- what was read, and then a read that gave nothing
+pub Reads-kept : (a b c : Option (List ℕ)) (count : ℕ) (old new : List ℕ) → Reads count a b old new
+    → Keeps b c → Reads count a c old new
+Reads-kept a b c count old new so_far kept = record {
+  bytes = so_far.bytes;
+  size = so_far.size;
+  given = Consumes-kept a b c so_far.bytes so_far.given kept;
+  appended = so_far.appended;
 }
-Appends-below (Some content) limit most count old new starts all grown within below =
-    let size = length-append old (take most content) in
-    let front = length-take most content in
-    let long = ap length all in
-    record {
-      bytes = take most content;
-      whole = all;
-      within = omega (arith, size, front, long);
-      honest = take_all most content (omega (arith, size, front, long));
-    }
-
--- more bytes than the limit are there, where more were read
-pub past_limit : (told : Option (List ℕ)) (limit most count : ℕ) (old new : List ℕ) → IfSome (option_map (take most) told) (λ bytes. new ≡ old ++ bytes) → length new ≡ length old + count → limit < count → IfSome told (λ bytes. limit < length bytes)
-past_limit None limit most count old new all grown past = tt
-past_limit (Some content) limit most count old new all grown past =
-    let size = length-append old (take most content) in
-    let front = length-take most content in
-    let long = ap length all in
-    omega (arith, size, front, long)

@@ -14,6 +14,8 @@ pub record StreamState (W : Type 0) : Type 0 where
   pub broken : Bool
   -- how many calls have failed
   pub faults : ℕ
+  -- how often a piece was put
+  pub puts : ℕ
 
 -- the bytes of the stream and then those held, where the stream tells its bytes
 abbrev pub taken_bytes : {W : Type 0} → (W → Option (List ℕ)) → StreamState W → Option (List ℕ)

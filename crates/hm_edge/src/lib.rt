@@ -27,5 +27,5 @@ pub use memory::Memory;
 pub use memory_shelf::MemoryShelf;
 pub use memory_sink::{MemorySink, SinkFail};
 pub use shelf::{Shelf, ShelfRefused};
-pub use sink::{Sink, SinkFailed};
+pub use sink::{Finish, Sink, SinkFailed};
 pub use stream_sink::{STREAM_CAPACITY, StreamSink};

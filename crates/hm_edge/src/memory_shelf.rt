@@ -118,6 +118,7 @@ impl Shelf for MemoryShelf {
         ensures long { result ≡ Err ShelfRefused.Long
             → IfSome (bytes_of self.old.files name.now) (λ bytes. limit < length bytes) }
         ensures failed { result ≡ Err ShelfRefused.Failed → Rose self.old.faults self.new.faults }
+        ensures unfailed { result ≢ Err ShelfRefused.Failed → self.new.faults ≡ self.old.faults }
         ensures faults { self.old.faults ≤ self.new.faults }
         ensures failures { Some self.new.failed
             ≡ failed_after result name.now (Some self.old.failed) }

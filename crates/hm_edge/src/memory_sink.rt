@@ -1,10 +1,11 @@
 //! A sink in memory, which tells its bytes and fails where it was told to.
-ghost use Rattle.std.specs.Prelude.{◌≡◌, ◌==◌, ◌<◌, ◌≤◌, [], find, length, Some, IsOk, IfOk, IfErr, OnErr};
+ghost use Rattle.std.specs.Prelude.{◌≡◌, ◌==◌, ℕ, ◌<◌, ◌≤◌, List, [], find, length, Some, IsOk, IfOk, IfErr, OnOk, OnErr};
+ghost use Rattle.std.specs.Io.KnownBytes.{Appends};
 ghost use Rattle.hm_edge.specs.Faults.{Rose, next_count};
 ghost use Rattle.hm_edge.specs.Sinks.{bytes_after, faults_after, part_put};
 
 use crate::memory::Memory;
-use crate::sink::{Sink, SinkFailed};
+use crate::sink::{Finish, Sink, SinkFailed};
 use std::alloc::Global;
 use std::marker::Model;
 
@@ -89,6 +90,8 @@ impl Sink for MemorySink {
 
     ghost faults = { λ sink. sink.faults };
 
+    ghost puts = { λ sink. sink.calls };
+
     ghost written = { λ sink. Some sink.bytes };
 
     /// As the trait says. It takes no memory.
@@ -100,12 +103,13 @@ impl Sink for MemorySink {
             ≡ bytes_after (part_put piece.now result) (Some self.old.bytes) }
         ensures part { IfErr result (λ fault. fault.wrote ≤ length piece.now) }
         ensures failed { OnErr result (Rose self.old.faults self.new.faults) }
+        ensures unfailed { OnOk result (self.new.faults ≡ self.old.faults) }
         ensures faults { self.old.faults ≤ self.new.faults }
+        ensures puts { self.new.calls ≡ next_count self.old.calls }
 
         // What it answers, and what is counted.
         ensures exact { result ≡ due_answer self.old piece.now }
         ensures count { self.new.faults ≡ faults_after result self.old.faults }
-        ensures calls { self.new.calls ≡ next_count self.old.calls }
         ensures room { self.new.room ≡ self.old.room }
         ensures fails { self.new.fails ≡ self.old.fails }
     {
@@ -122,5 +126,29 @@ impl Sink for MemorySink {
         }
         self.faults = self.faults.saturating_add(1);
         Err(SinkFailed { wrote })
+    }
+}
+
+impl Finish for MemorySink {
+    ghost held = { λ _. [] };
+
+    ghost sent = { λ sink. Some sink.bytes };
+
+    /// Nothing is kept, so there is nothing to do.
+    fn finish(&mut self) -> Result<(), SinkFailed>
+        // What the trait promises.
+        ensures held { let kept : List ℕ = [] in kept ≡ [] }
+        ensures sent { OnOk result (Appends (Some self.old.bytes) (Some self.new.bytes) []) }
+        ensures written { Some self.new.bytes ≡ Some self.old.bytes }
+        ensures failed { OnErr result (Rose self.old.faults self.new.faults) }
+        ensures unfailed { OnOk result (self.new.faults ≡ self.old.faults) }
+        ensures faults { self.old.faults ≤ self.new.faults }
+        ensures puts { self.new.calls ≡ self.old.calls }
+
+        // It does not fail, and changes nothing.
+        ensures done { IsOk result }
+        ensures same { self.new ≡ self.old }
+    {
+        Ok(())
     }
 }

@@ -1,5 +1,5 @@
 //! A shelf: bytes by name.
-ghost use Rattle.std.specs.Prelude.{◌≡◌, ℕ, ◌<◌, ◌≤◌, List, length, Option, IfSome, Err, OnOk, OnErr};
+ghost use Rattle.std.specs.Prelude.{◌≡◌, ◌≢◌, ℕ, ◌<◌, ◌≤◌, List, length, Option, IfSome, Err, OnOk, OnErr};
 ghost use Rattle.hm_edge.specs.Faults.{Rose};
 ghost use Rattle.hm_edge.specs.Shelves.{Appends, IsRefusalFor, failed_after};
 ghost use Rattle.hm_edge.specs.declared.shelf.ShelfRefused.TheVariants.{Memory as OutOfMemory};
@@ -69,6 +69,7 @@ pub trait Shelf {
         ensures failed { result ≡ Err ShelfRefused.Failed
             → Rose (faults self.old) (faults self.new) }
 
+        ensures unfailed { result ≢ Err ShelfRefused.Failed → faults self.new ≡ faults self.old }
         ensures faults { faults self.old ≤ faults self.new }
         ensures failures { failed self.new ≡ failed_after result name.now (failed self.old) }
         ensures same { (other : List ℕ) → told self.new other ≡ told self.old other };

@@ -1,11 +1,11 @@
 //! A sink over a stream, which gathers small pieces before it writes them.
-ghost use Rattle.std.specs.Prelude.{◌≡◌, ℕ, ◌+◌, ◌≤◌, ◌<◌, ◌||◌, ◌++◌, [], length, take, is_err, true, false, None, Ok, Err, IsOk, IsErr, IfErr, OnOk, OnErr, IsTrue};
+ghost use Rattle.std.specs.Prelude.{◌≡◌, ℕ, ◌+◌, ◌≤◌, ◌<◌, ◌||◌, ◌++◌, List, [], length, take, is_err, true, false, Option, None, Ok, Err, IsOk, IsErr, IfErr, OnOk, OnErr, IsTrue};
 ghost use Rattle.std.specs.Io.KnownBytes.{Appends};
 ghost use Rattle.hm_edge.specs.Faults.{Rose, next_count};
 ghost use Rattle.hm_edge.specs.Sinks.{bytes_after, part_put};
 ghost use Rattle.hm_edge.specs.StreamSink.{FailsForGood, GrowsByFront, taken_bytes};
 
-use crate::sink::{Sink, SinkFailed};
+use crate::sink::{Finish, Sink, SinkFailed};
 use std::io::{ErrorKind, Write};
 use std::marker::Model;
 
@@ -25,6 +25,7 @@ pub struct StreamSink<W> {
     len: usize,
     broken: bool,
     faults: u64,
+    puts: u64,
 }
 
 impl<W> Model for StreamSink<W> {
@@ -39,6 +40,7 @@ impl<W> Model for StreamSink<W> {
       held = take sink.len sink.held;
       broken = sink.broken;
       faults = sink.faults;
+      puts = sink.puts;
     } };
 
     ghost invariant = { λ sink. (sink.len ≤ STREAM_CAPACITY)
@@ -52,6 +54,7 @@ impl<W> StreamSink<W> {
         ensures held { result.held ≡ [] }
         ensures whole { result.broken ≡ false }
         ensures faults { result.faults ≡ 0 }
+        ensures puts { result.puts ≡ 0 }
     {
         StreamSink {
             writer,
@@ -59,7 +62,15 @@ impl<W> StreamSink<W> {
             len: 0,
             broken: false,
             faults: 0,
+            puts: 0,
         }
+    }
+
+    // Counts a put.
+    fn count_put(&mut self)
+        ensures { self.new ≡ record self.old { puts = next_count self.old.puts } }
+    {
+        self.puts = self.puts.saturating_add(1);
     }
 
     // Breaks the sink and counts a fault.
@@ -80,28 +91,6 @@ impl<W> StreamSink<W> {
 }
 
 impl<W: Write> StreamSink<W> {
-    /// Writes what is held and flushes the stream. After Ok nothing is held.
-    pub fn finish(&mut self) -> Result<(), SinkFailed>
-        // What the stream gets: on Ok all that was held, at a fault a front of it.
-        ensures written { OnOk result (Appends (W.contents self.old.writer)
-            (W.contents self.new.writer) self.old.held) }
-        ensures front { IfErr result (λ fault. GrowsByFront (W.contents self.old.writer)
-            (W.contents self.new.writer) self.old.held [] fault.wrote) }
-        ensures held { self.new.held ≡ [] }
-
-        // What a fault does.
-        ensures wrote { IfErr result (λ fault. fault.wrote ≡ 0) }
-        ensures for_good { FailsForGood self.old self.new result }
-        ensures failed { OnErr result (Rose self.old.faults self.new.faults) }
-        ensures faults { self.old.faults ≤ self.new.faults }
-    {
-        self.write_held()?;
-        match self.writer.flush() {
-            Ok(()) => Ok(()),
-            Err(_) => Err(self.fail(0)),
-        }
-    }
-
     // Keeps the piece for a later write.
     fn hold(&mut self, piece: &[u8])
         requires room { length self.old.held + length piece.now ≤ STREAM_CAPACITY }
@@ -122,7 +111,9 @@ impl<W: Write> StreamSink<W> {
         ensures held { self.new.held ≡ [] }
         ensures wrote { IfErr result (λ fault. fault.wrote ≡ 0) }
         ensures for_good { FailsForGood self.old self.new result }
+        ensures unfailed { OnOk result (self.new.faults ≡ self.old.faults) }
         ensures faults { self.old.faults ≤ self.new.faults }
+        ensures puts { self.new.puts ≡ self.old.puts }
     {
         if self.broken {
             return Err(self.fail(0));
@@ -139,6 +130,8 @@ impl<W: Write> StreamSink<W> {
 impl<W: Write> Sink for StreamSink<W> {
     ghost faults = { λ sink. sink.faults };
 
+    ghost puts = { λ sink. sink.puts };
+
     ghost written = { λ _. None };
 
     /// As the trait says, of a sink that tells nothing of its bytes. Ok: the piece was taken.
@@ -149,7 +142,9 @@ impl<W: Write> Sink for StreamSink<W> {
         ensures written { None ≡ bytes_after (part_put piece.now result) None }
         ensures part { IfErr result (λ fault. fault.wrote ≤ length piece.now) }
         ensures failed { OnErr result (Rose self.old.faults self.new.faults) }
+        ensures unfailed { OnOk result (self.new.faults ≡ self.old.faults) }
         ensures faults { self.old.faults ≤ self.new.faults }
+        ensures puts { self.new.puts ≡ next_count self.old.puts }
 
         // What the stream gets: on Ok the piece, now or later, and at a fault a front.
         ensures taken { OnOk result (Appends (taken_bytes W.contents self.old)
@@ -160,11 +155,15 @@ impl<W: Write> Sink for StreamSink<W> {
         // A piece that there is room for is held, and nothing else happens.
         ensures room { self.old.broken ≡ false
             → length self.old.held + length piece.now ≤ STREAM_CAPACITY
-            → IsOk result × (self.new ≡ record self.old { held = self.old.held ++ piece.now }) }
+            → IsOk result × (self.new ≡ record self.old {
+              held = self.old.held ++ piece.now;
+              puts = next_count self.old.puts;
+            }) }
 
         // What a fault does.
         ensures for_good { FailsForGood self.old self.new result }
     {
+        self.count_put();
         if !self.broken && piece.len() <= STREAM_CAPACITY - self.len {
             self.hold(piece);
             return Ok(());
@@ -179,6 +178,37 @@ impl<W: Write> Sink for StreamSink<W> {
             return Err(self.fail(wrote as u64));
         }
         Ok(())
+    }
+}
+
+impl<W: Write> Finish for StreamSink<W> {
+    ghost held = { λ sink. sink.held };
+
+    ghost sent = { λ sink. W.contents sink.writer };
+
+    /// Writes what is held and flushes the stream.
+    fn finish(&mut self) -> Result<(), SinkFailed>
+        // What the trait promises.
+        ensures held { self.new.held ≡ [] }
+        ensures sent { OnOk result (Appends (W.contents self.old.writer)
+            (W.contents self.new.writer) self.old.held) }
+        ensures written { let told : Option (List ℕ) = None in told ≡ told }
+        ensures failed { OnErr result (Rose self.old.faults self.new.faults) }
+        ensures unfailed { OnOk result (self.new.faults ≡ self.old.faults) }
+        ensures faults { self.old.faults ≤ self.new.faults }
+        ensures puts { self.new.puts ≡ self.old.puts }
+
+        // What the stream gets at a fault, and what a fault does.
+        ensures front { IfErr result (λ fault. GrowsByFront (W.contents self.old.writer)
+            (W.contents self.new.writer) self.old.held [] fault.wrote) }
+        ensures wrote { IfErr result (λ fault. fault.wrote ≡ 0) }
+        ensures for_good { FailsForGood self.old self.new result }
+    {
+        self.write_held()?;
+        match self.writer.flush() {
+            Ok(()) => Ok(()),
+            Err(_) => Err(self.fail(0)),
+        }
     }
 }
 

@@ -5,7 +5,7 @@ use crate::file_shelf::FileShelf;
 use crate::memory_shelf::MemoryShelf;
 use crate::memory_sink::{MemorySink, SinkFail};
 use crate::shelf::{Shelf, ShelfRefused};
-use crate::sink::{Sink, SinkFailed};
+use crate::sink::{Finish, Sink, SinkFailed};
 use crate::stream_sink::{STREAM_CAPACITY, StreamSink};
 use std::alloc::{AllocError, Global};
 use std::io::{Error, ErrorKind, Write};
@@ -33,6 +33,12 @@ fn put_gives<K: Sink>(rt: &impl Abort, sink: &mut K, piece: &[u8], want: Result<
     requires { 0 < length piece.now }
 {
     let answer = sink.put(piece);
+    assert!(rt; answer == want);
+}
+
+// A finish through the bound answers this.
+fn finish_gives<K: Finish>(rt: &impl Abort, sink: &mut K, want: Result<(), SinkFailed>) {
+    let answer = sink.finish();
     assert!(rt; answer == want);
 }
 
@@ -78,6 +84,12 @@ fn a_shelf_over_files_reads_up_to_the_limit(rt: HostRuntime) -> Result<(), Fail>
     ] {
         read_gives(&rt, alloc, &mut shelf, read, want)?;
     }
+    let long = vec![in alloc; b'x'; 40_000]?;
+    fs::write(&rt, path.as_str(), long.as_slice())?;
+    let mut into = Vec::new(alloc);
+    assert!(rt; shelf.read(path.as_str(), &mut into, 40_000) == Ok(()));
+    assert!(rt; into.as_slice() == long.as_slice());
+    assert!(rt; shelf.read(path.as_str(), &mut into, 39_999) == Err(ShelfRefused::Long));
     fs::remove_file(&rt, path.as_str())?;
     Ok(())
 }
@@ -96,6 +108,7 @@ fn a_sink_in_memory_takes_what_fits_and_what_it_was_told_to(rt: HostRuntime) -> 
     put_gives(&rt, &mut sink, b"g", only(1));
     put_gives(&rt, &mut sink, b"hij", only(2));
     put_gives(&rt, &mut sink, b"k", only(0));
+    finish_gives(&rt, &mut sink, ALL);
     assert!(rt; sink.bytes() == b"abcefghi".as_slice());
     Ok(())
 }
@@ -147,7 +160,7 @@ fn a_stream_gets_the_pieces_in_order(rt: HostRuntime) -> Result<(), Fail> {
     put_gives(&rt, &mut sink, b"ab", ALL);
     put_gives(&rt, &mut sink, &long, ALL);
     put_gives(&rt, &mut sink, b"cd", ALL);
-    assert!(rt; sink.finish() == ALL);
+    finish_gives(&rt, &mut sink, ALL);
     drop(sink);
     assert!(rt; stream.len() == STREAM_CAPACITY + 5);
     assert!(rt; stream.starts_with(b"abxx") && stream.ends_with(b"xxcd"));
@@ -163,7 +176,7 @@ fn a_stream_that_fails_gets_nothing_more(rt: HostRuntime) -> Result<(), Fail> {
     put_gives(&rt, &mut sink, b"abcd", ALL);
     put_gives(&rt, &mut sink, &long, only(6));
     put_gives(&rt, &mut sink, b"e", only(0));
-    assert!(rt; sink.finish() == only(0));
+    finish_gives(&rt, &mut sink, only(0));
     drop(sink);
     assert!(rt; stream.bytes.as_slice() == b"abcdxxxxxx".as_slice());
     Ok(())
@@ -174,8 +187,8 @@ fn a_finish_that_fails_fails_again(rt: HostRuntime) -> Result<(), Fail> {
     let mut stream = Narrow::new(rt.alloc(), 2);
     let mut sink = StreamSink::new(&mut stream);
     put_gives(&rt, &mut sink, b"abcd", ALL);
-    assert!(rt; sink.finish() == only(0));
-    assert!(rt; sink.finish() == only(0));
+    finish_gives(&rt, &mut sink, only(0));
+    finish_gives(&rt, &mut sink, only(0));
     drop(sink);
     assert!(rt; stream.bytes.as_slice() == b"abc".as_slice());
     Ok(())

@@ -1,5 +1,5 @@
 -- The text of a report: its lines in order, each ended by a line feed.
-use Rattle.std.specs.Prelude.{◌≡◌, ℕ, List, [], ◌∷◌, ◌++◌, length, sum_by, codes, decimal, Option}
+use Rattle.std.specs.Prelude.{◌≡◌, ℕ, List, [], ◌∷◌, ◌++◌, length, map, sum_by, codes, decimal, Option}
 use Rattle.std.specs.List.{flat_map}
 use Rattle.hm_edge.specs.Sinks.{bytes_after}
 use Rattle.hm_orders.specs.declared.report.Fate.{Fate}
@@ -39,20 +39,29 @@ fill_line fill =
     (fill.number ∷ fill.taker ∷ fill.maker ∷ fill.price ∷ fill.quantity ∷ [])
 
 -- the line of an order and then those of its fills
-abbrev pub done_lines : Done → List ℕ
-done_lines done = order_line done ++ flat_map fill_line done.fills
+abbrev pub done_lines : Done → List (List ℕ)
+done_lines done = order_line done ∷ map fill_line done.fills
 
 -- how many fills the orders had together
 abbrev pub fill_count : List Done → ℕ
 fill_count dones = sum_by (λ done. length done.fills) dones
 
--- each order with its fills, then the board, then the numbers of orders, fills and resting orders
-abbrev pub report_text : Report → List ℕ
-report_text report =
+-- the lines of each order with its fills, then the board, then the numbers of orders, fills and
+-- resting orders
+abbrev pub report_lines : Report → List (List ℕ)
+report_lines report =
     flat_map done_lines report.done
-    ++ line_of (codes "board") report.board
+    ++ line_of (codes "board") report.board ∷ []
     ++ line_of (codes "end")
-    (length report.done ∷ fill_count report.done ∷ report.resting ∷ [])
+    (length report.done ∷ fill_count report.done ∷ report.resting ∷ []) ∷ []
+
+-- lines, one after another
+abbrev pub joined : List (List ℕ) → List ℕ
+joined lines = flat_map (λ line. line) lines
+
+-- the text of a report is its lines
+abbrev pub report_text : Report → List ℕ
+report_text report = joined (report_lines report)
 
 -- what a sink tells is what it told before and then a front of the text
 pub record AddsFront (text : List ℕ) (old new : Option (List ℕ)) : Type 0 where

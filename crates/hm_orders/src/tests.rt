@@ -74,6 +74,8 @@ impl Sink for Lines {
 
     ghost faults = { λ lines. lines.faults };
 
+    ghost puts = { λ lines. lines.puts };
+
     ghost written = { λ lines. Some lines.bytes.items };
 
     fn put(&mut self, piece: &[u8]) -> Result<(), SinkFailed> {

@@ -1,10 +1,10 @@
 //! Writing reports.
-ghost use Rattle.std.specs.Prelude.{◌≡◌, ◌<◌, ◌≤◌, length, Err, OnOk, OnErr};
+ghost use Rattle.std.specs.Prelude.{◌≡◌, ◌≢◌, ◌<◌, ◌≤◌, [], ◌∷◌, length, map, Err, OnOk, OnErr};
 ghost use Rattle.std.specs.List.{flat_map};
 ghost use Rattle.hm_edge.specs.Faults.{Rose};
 ghost use Rattle.hm_edge.specs.Sinks.{bytes_after};
-ghost use Rattle.hm_orders.specs.ReportText.{AddsFront, done_lines, fill_count, fill_line, report_text};
-ghost use Rattle.hm_orders.specs.Putting.{Puts};
+ghost use Rattle.hm_orders.specs.ReportText.{AddsFront, done_lines, fill_count, fill_line, report_lines, report_text};
+ghost use Rattle.hm_orders.specs.Putting.{Puts, PutsLines};
 
 use crate::lines::{write_board, write_end, write_fill, write_order};
 use crate::report::{Done, Fill, Report};
@@ -52,8 +52,11 @@ pub fn write_report<K: Sink>(
         (K.written out.new ≡ bytes_after (report_text report.now) (K.written out.old)) }
     ensures front { OnErr result
         (AddsFront (report_text report.now) (K.written out.old) (K.written out.new)) }
+    ensures lines { PutsLines (report_lines report.now) result (K.puts out.old) (K.puts out.new)
+        (K.written out.old) (K.written out.new) }
     ensures failed { result ≡ Err WriteRefused.Failed
         → Rose (K.faults out.old) (K.faults out.new) }
+    ensures unfailed { result ≢ Err WriteRefused.Failed → K.faults out.new ≡ K.faults out.old }
     ensures faults { K.faults out.old ≤ K.faults out.new }
 {
     let mut line = String::new(alloc);
@@ -62,7 +65,7 @@ pub fn write_report<K: Sink>(
 
 /// Puts the lines of a report, each written into `line` first.
 fn put_report<K: Sink>(line: &mut String, report: &Report, out: &mut K) -> Result<(), WriteRefused>
-    ensures { Puts K.written K.faults (report_text report.now) result out.old out.new }
+    ensures { Puts K.written K.faults K.puts (report_lines report.now) result out.old out.new }
 {
     let dones = report.done.items();
     put_dones(line, dones, out)?;
@@ -74,7 +77,8 @@ fn put_report<K: Sink>(line: &mut String, report: &Report, out: &mut K) -> Resul
 
 /// Puts the lines of the orders and of their fills.
 fn put_dones<K: Sink>(line: &mut String, dones: &[Done], out: &mut K) -> Result<(), WriteRefused>
-    ensures { Puts K.written K.faults (flat_map done_lines dones.now) result out.old out.new }
+    ensures { Puts K.written K.faults K.puts (flat_map done_lines dones.now) result
+        out.old out.new }
 {
     for done in dones {
         put_done(line, done, out)?;
@@ -84,7 +88,7 @@ fn put_dones<K: Sink>(line: &mut String, dones: &[Done], out: &mut K) -> Result<
 
 /// Puts the line of an order and those of its fills.
 fn put_done<K: Sink>(line: &mut String, done: &Done, out: &mut K) -> Result<(), WriteRefused>
-    ensures { Puts K.written K.faults (done_lines done.now) result out.old out.new }
+    ensures { Puts K.written K.faults K.puts (done_lines done.now) result out.old out.new }
 {
     write_order(line, done)?;
     put(line.as_str(), out)?;
@@ -93,7 +97,7 @@ fn put_done<K: Sink>(line: &mut String, done: &Done, out: &mut K) -> Result<(), 
 
 /// Puts the lines of the fills of one order.
 fn put_fills<K: Sink>(line: &mut String, fills: &[Fill], out: &mut K) -> Result<(), WriteRefused>
-    ensures { Puts K.written K.faults (flat_map fill_line fills.now) result out.old out.new }
+    ensures { Puts K.written K.faults K.puts (map fill_line fills.now) result out.old out.new }
 {
     for fill in fills {
         write_fill(line, fill)?;
@@ -105,7 +109,7 @@ fn put_fills<K: Sink>(line: &mut String, fills: &[Fill], out: &mut K) -> Result<
 /// Puts one line.
 fn put<K: Sink>(line: &str, out: &mut K) -> Result<(), WriteRefused>
     requires { 0 < length line.now }
-    ensures { Puts K.written K.faults line.now result out.old out.new }
+    ensures { Puts K.written K.faults K.puts (line.now ∷ []) result out.old out.new }
 {
     out.put(line.as_bytes())?;
     Ok(())

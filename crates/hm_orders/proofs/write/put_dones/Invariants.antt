@@ -6,5 +6,5 @@ use Rattle.hm_orders.specs.Putting.{Puts}
 use Rattle.hm_orders.proofs.write.put_dones.Given as goal
 
 abbrev pub invariant-loop-done : goal.invariant-loop-done
-invariant-loop-done g l = Puts g.K.Sink.written g.K.Sink.faults
+invariant-loop-done g l = Puts g.K.Sink.written g.K.Sink.faults g.K.Sink.puts
     (flat_map done_lines (take l.done-index l.dones)) (Ok tt) l.fn.out l.out

@@ -10,7 +10,7 @@ use Rattle.hm_orders.proofs.Putting.{puts-no-memory, puts-then, puts-stop}
 use Rattle.hm_orders.proofs.write.put_report.Goals as goal
 
 -- the first part of the text
-abbrev orders : Report → List ℕ
+abbrev orders : Report → List (List ℕ)
 orders report = flat_map done_lines report.done
 
 -- the second
@@ -27,11 +27,12 @@ returns-in_err-put_dones g c =
     let p = err_from_is_err_and c.from_residual.result c.from_residual.ensures.1 in
     let w = g.K.Sink.written in
     let f = g.K.Sink.faults in
+    let n = g.K.Sink.puts in
     let r = c.args.report.now in
     let s = c.args.out.now in
     let t = c.put_dones.new.out in
-    rw (p.1, p.2) (puts-stop w f (orders r ++ board r) (last r) _ s t
-    (puts-stop w f (orders r) (board r) _ s t
+    rw (p.1, p.2) (puts-stop w f n (orders r ++ board r ∷ []) (last r ∷ []) _ s t
+    (puts-stop w f n (orders r) (board r ∷ []) _ s t
     (rw c.items-dones.ensures at c.in_err-put_dones.ensures)))
 
 pub returns-in_err-write_board : goal.returns-in_err-write_board
@@ -40,13 +41,14 @@ returns-in_err-write_board g c =
     let p = err_from_is_err_and q.result q.ensures.1 in
     let w = g.K.Sink.written in
     let f = g.K.Sink.faults in
+    let n = g.K.Sink.puts in
     let r = c.args.report.now in
     let s = c.args.out.now in
     let t = c.put_dones.new.out in
     let so_far = rw c.items-dones.ensures at c.in_ok-put_dones.ensures in
-    rw (p.1, p.2) (puts-stop w f (orders r ++ board r) (last r) _ s t
-    (puts-then w f (orders r) (board r) (Err Memory) s t t so_far
-    (puts-no-memory w f (board r) t)))
+    rw (p.1, p.2) (puts-stop w f n (orders r ++ board r ∷ []) (last r ∷ []) _ s t
+    (puts-then w f n (orders r) (board r ∷ []) (Err Memory) s t t so_far
+    (puts-no-memory w f n (board r ∷ []) t)))
 
 pub returns-in_err-put : goal.returns-in_err-put
 returns-in_err-put g c =
@@ -54,6 +56,7 @@ returns-in_err-put g c =
     let p = err_from_is_err_and q.result q.ensures.1 in
     let w = g.K.Sink.written in
     let f = g.K.Sink.faults in
+    let n = g.K.Sink.puts in
     let r = c.args.report.now in
     let s = c.args.out.now in
     let t = c.put_dones.new.out in
@@ -62,8 +65,8 @@ returns-in_err-put g c =
     let line : c.as_str.result.now ≡ board r =
     c.as_str.ensures.value ∙ c.in_ok-write_board.ensures
     ∙ ap (line_of (codes "board")) c.items.ensures in
-    rw (p.1, p.2) (puts-stop w f (orders r ++ board r) (last r) _ s u
-    (puts-then w f (orders r) (board r) _ s t u so_far (rw line at c.in_err-put.ensures)))
+    rw (p.1, p.2) (puts-stop w f n (orders r ++ board r ∷ []) (last r ∷ []) _ s u
+    (puts-then w f n (orders r) (board r ∷ []) _ s t u so_far (rw line at c.in_err-put.ensures)))
 
 pub returns-in_err-write_end : goal.returns-in_err-write_end
 returns-in_err-write_end g c =
@@ -71,6 +74,7 @@ returns-in_err-write_end g c =
     let p = err_from_is_err_and q.result q.ensures.1 in
     let w = g.K.Sink.written in
     let f = g.K.Sink.faults in
+    let n = g.K.Sink.puts in
     let r = c.args.report.now in
     let s = c.args.out.now in
     let t = c.put_dones.new.out in
@@ -80,14 +84,15 @@ returns-in_err-write_end g c =
     c.as_str.ensures.value ∙ c.in_ok-write_board.ensures
     ∙ ap (line_of (codes "board")) c.items.ensures in
     let next = rw line at c.in_ok-put.ensures in
-    let both = puts-then w f (orders r) (board r) (Ok tt) s t u so_far next in
-    rw (p.1, p.2) (puts-then w f (orders r ++ board r) (last r) (Err Memory) s u u both
-    (puts-no-memory w f (last r) u))
+    let both = puts-then w f n (orders r) (board r ∷ []) (Ok tt) s t u so_far next in
+    rw (p.1, p.2) (puts-then w f n (orders r ++ board r ∷ []) (last r ∷ []) (Err Memory) s u u both
+    (puts-no-memory w f n (last r ∷ []) u))
 
 pub returns : goal.returns
 returns g c =
     let w = g.K.Sink.written in
     let f = g.K.Sink.faults in
+    let n = g.K.Sink.puts in
     let r = c.args.report.now in
     let s = c.args.out.now in
     let t = c.put_dones.new.out in
@@ -97,9 +102,9 @@ returns g c =
     c.as_str.ensures.value ∙ c.in_ok-write_board.ensures
     ∙ ap (line_of (codes "board")) c.items.ensures in
     let next = rw line at c.in_ok-put.ensures in
-    let both = puts-then w f (orders r) (board r) (Ok tt) s t u so_far next in
+    let both = puts-then w f n (orders r) (board r ∷ []) (Ok tt) s t u so_far next in
     let ended : c.as_str-2.result.now ≡ last r =
     c.as_str-2.ensures.value
     ∙ (rw (c.count_fills.ensures, c.items-dones.ensures) at c.in_ok-write_end.ensures) in
-    puts-then w f (orders r ++ board r) (last r) c.put-2.result s u c.put-2.new.out both
+    puts-then w f n (orders r ++ board r ∷ []) (last r ∷ []) c.put-2.result s u c.put-2.new.out both
     (rw ended at c.put-2.ensures)

@@ -2,7 +2,7 @@
 use Rattle.std.proofs.Common.{[]}
 use Rattle.std.proofs.KnownBytes.{Appends-kept, Appends-nil}
 use Rattle.hm_edge.proofs.Fronts.{GrowsByFront-past_held}
-use Rattle.hm_edge.proofs.stream_sink.StreamSink.finish.Goals as goal
+use Rattle.hm_edge.proofs.stream_sink.StreamSinkFinish.finish.Goals as goal
 
 pub returns-in-Err-clause-front : goal.returns-in-Err-clause-front
 returns-in-Err-clause-front g c =
