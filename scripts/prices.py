@@ -98,5 +98,5 @@ def trades(report, quotes):
     else:
         parts += lines + [empty(FILLS, "no fills")]
     told += "; the lines are cut where they leave the strip" if prices.is_cut else ""
-    told += "" if quotes or not report.orders else "; the best bid and ask are drawn where the files are named too"
+    told += "" if quotes or not report.orders else "; name the files too for the best bid and ask"
     return parts + [text(LEFT, top - 27, told)] + legend(items, LEFT, RIGHT, top - 8)
