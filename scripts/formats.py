@@ -13,7 +13,7 @@ TRADES = ("filled", "rested", "dropped")  # the fates with which an order may ha
 NUMBER = b" (0|[1-9][0-9]{0,19})"
 ORDER_LINE = re.compile(b"order" + NUMBER * 3 + b" ([a-z]+)\n")
 FILL_LINE = re.compile(b"fill" + NUMBER * 5 + b"\n")
-BOARD_LINE = re.compile(b"board(" + NUMBER + b")+\n")
+BOARD_LINE = re.compile(b"board(" + NUMBER + b"){1,%d}\n" % MOST_FILES)
 END_LINE = re.compile(b"end" + NUMBER * 3 + b"\n")
 
 Order = namedtuple("Order", "root file row fate")
@@ -99,7 +99,6 @@ class Reading:
         self.last, self.way = None, 0
 
     def take_board(self, board):
-        require(len(board) <= MOST_FILES, "a replay has at most %d files" % MOST_FILES)
         counts = [self.rows[file] for file in range(1, len(board) + 1)]
         require(board == counts and sum(counts) == len(self.orders), "it does not count the orders of each file")
         self.board = board

@@ -48,7 +48,7 @@ BROKEN = [
     ("a filled order without a fill", GOOD.replace(b"fill 1 2 1 10 3\n", b""), "line 3 is 'board 2', but an order"),
     ("a wrong board line", GOOD.replace(b"board 2", b"board 1"), "line 4 is 'board 1', but it does not count"),
     ("a board of no file", GOOD.replace(b"board 2", b"board"), "line 4 is 'board'"),
-    ("a board of 65 files", GOOD.replace(b"board 2", b"board 2" + b" 0" * 64), "at most 64 files"),
+    ("a board of 65 files", GOOD.replace(b"board 2", b"board 2" + b" 0" * 64), "line 4 is 'board 2 0 0"),
     ("more at rest than orders", GOOD.replace(b"end 2 1 1", b"end 2 1 3"), "from 0 to 1 orders can rest"),
     ("more at rest than rested", GOOD.replace(b"end 2 1 1", b"end 2 1 2"), "from 0 to 1 orders can rest"),
     ("a maker that did not rest", GOOD[:GOOD.index(b"board")] + b"order 3 1 3 filled\nfill 2 3 2 9 1\n",
