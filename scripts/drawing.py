@@ -1,8 +1,11 @@
-"""Elements of a picture in SVG, and round numbers for its axes."""
+"""Elements of a picture in SVG, legends, and round numbers for axes."""
 
 STYLE = "text{font:13px sans-serif;fill:#222}.title{font-size:17px;font-weight:bold}.back{fill:#fff}" \
     ".end{text-anchor:end}.mid{text-anchor:middle}.axis{stroke:#444}.grid{stroke:#ddd}.lane{fill:#f3f3f3}" \
-    "rect{shape-rendering:crispEdges}circle{fill:#5b2a86;fill-opacity:.55;stroke:#fff;stroke-width:.5}"
+    "rect{shape-rendering:crispEdges}.fill{fill:#5b2a86}circle{fill-opacity:.5;stroke:#fff;stroke-width:.8}" \
+    ".under,.bid,.ask{fill:none;stroke:#fff;stroke-width:3}.bid,.ask{stroke-width:1.5}.bid{stroke:#1f6fc0}" \
+    ".ask{stroke:#b35900;stroke-dasharray:5 2}"
+LETTER = 8  # how wide a letter is at most, more or less
 
 
 def page(width, height, title, colours, parts):
@@ -16,8 +19,13 @@ def page(width, height, title, colours, parts):
 
 def drawn(tag, kind="", inside="", **numbers):
     """One element of the picture."""
-    numbers = "".join(' %s="%.2f"' % pair for pair in numbers.items())
+    numbers = "".join(' %s="%.2f"' % (name.replace("_", "-"), number) for name, number in numbers.items())
     return '<%s class="%s"%s>%s</%s>' % (tag, kind, numbers, inside, tag)
+
+
+def hover(words):
+    """The text of an element on hover."""
+    return "<title>%s</title>" % words if words else ""
 
 
 def text(x, y, words, kind=""):
@@ -34,15 +42,40 @@ def line(x, y, to_x, to_y, kind):
 
 
 def bar(x, y, width, height, kind, told=""):
-    """A rectangle, with a text on hover."""
-    told = "<title>%s</title>" % told if told else ""
-    return drawn("rect", kind, told, x=x, y=y, width=width, height=height)
+    return drawn("rect", kind, hover(told), x=x, y=y, width=width, height=height)
+
+
+def cell(x, y, size, shade, told=""):
+    """A square that is the darker the nearer its shade is to 1."""
+    return drawn("rect", "fill", hover(told), x=x, y=y, width=size, height=size, fill_opacity=shade)
 
 
 def circle(x, y, radius, told=""):
-    """A circle, with a text on hover."""
-    told = "<title>%s</title>" % told if told else ""
-    return drawn("circle", "", told, cx=x, cy=y, r=radius)
+    return drawn("circle", "fill", hover(told), cx=x, cy=y, r=radius)
+
+
+def stairs(points, right, kind):
+    """A line that keeps the height of each point until the next one, and is broken where there is no height."""
+    moves, last = [], None
+    for x, y in points + [(right, None)]:
+        if last is not None:
+            moves.append("H%.1f" % x)
+        if y is not None and y != last:
+            moves.append("M%.1f %.1f" % (x, y) if last is None else "V%.1f" % y)
+        last = y
+    return '<path class="%s" d="%s"/>' % (kind, "".join(moves))
+
+
+def legend(items, left, right, y):
+    """Marks with their words in rows from left to right: how each mark is drawn at x and y, and its words."""
+    parts, x = [], left
+    for mark, words in items:
+        wide = 20 + LETTER * len(words) + 14
+        if x > left and x + wide > right:
+            x, y = left, y + 19
+        parts += [mark(x, y), text(x + 20, y, words)]
+        x += wide
+    return parts
 
 
 def many(number, word):

@@ -1,143 +1,128 @@
-"""Order files and reports, read as docs/FORMATS.md says. Unproved, and no copy of the proved program."""
-import argparse
-import os
+"""Reports, read as docs/FORMATS.md says. Unproved, and no copy of the proved program."""
+import io
 import re
-import sys
-from collections import namedtuple
+from collections import Counter, namedtuple
 
-MOST_BYTES, MOST_ROWS, MOST_NUMBER = 67108864, 1000000, 4294967295
+from calls import Bad, named, read_bytes, shown
+from rows import MOST_NUMBER, MOST_ROWS
+
+MOST_REPORT = 268435456  # bytes of a report: of one file it has less than 140 million
+MOST_FILES = 64  # of a report
 FATES = ("filled", "rested", "repeated", "dropped", "cancelled", "unknown", "denied")
-NUMBER = "(0|[1-9][0-9]{0,19})"
-ORDER_LINE = re.compile("order %s %s %s ([a-z]+)" % ((NUMBER,) * 3))
-FILL_LINE = re.compile("fill" + " %s" % NUMBER * 5)
-BOARD_LINE = re.compile("board( %s)+" % NUMBER)
-END_LINE = re.compile("end" + " %s" % NUMBER * 3)
+TRADES = ("filled", "rested", "dropped")  # the fates with which an order may have fills
+NUMBER = b" (0|[1-9][0-9]{0,19})"
+ORDER_LINE = re.compile(b"order" + NUMBER * 3 + b" ([a-z]+)\n")
+FILL_LINE = re.compile(b"fill" + NUMBER * 5 + b"\n")
+BOARD_LINE = re.compile(b"board(" + NUMBER + b"){1,%d}\n" % MOST_FILES)
+END_LINE = re.compile(b"end" + NUMBER * 3 + b"\n")
 
 Order = namedtuple("Order", "root file row fate")
 Fill = namedtuple("Fill", "number taker maker price quantity")
 Report = namedtuple("Report", "orders fills board resting")
-Row = namedtuple("Row", "id side price quantity")
 
 
-class Bad(Exception):
-    """Input that a script can do nothing with; the text says why."""
+class Wrong(Exception):
+    """A line that no replay prints where it stands; the text says why."""
 
 
-class Refused(Exception):
-    """A row that the program refuses, by its number and its part."""
+def require(holds, why):
+    if not holds:
+        raise Wrong(why)
 
 
-class Parser(argparse.ArgumentParser):
-    """A parser of words that says in one line what is wrong with them."""
+class Reading:
+    """A report as far as it is read. What no replay prints, whatever its files, is Wrong."""
 
-    def __init__(self, description):
-        super().__init__(description=description, formatter_class=argparse.RawDescriptionHelpFormatter)
+    def __init__(self):
+        self.orders, self.fills, self.board, self.resting = [], [], None, None
+        self.rows, self.rest = Counter(), Counter()  # of each file: its orders, and how many may rest
+        self.prices, self.gone = {}, set()  # of makers: the price of each, and those that were filled
+        self.last, self.way = None, 0  # the last fill of the last order, and whether its prices rise or fall
 
-    def error(self, message):
-        raise Bad("%s; %s --help says more" % (message, self.prog))
+    def take(self, line):
+        """Reads the next line."""
+        require(self.resting is None, "the report was over")
+        order, fill = ORDER_LINE.fullmatch(line), FILL_LINE.fullmatch(line)
+        if self.board is not None:
+            require(END_LINE.fullmatch(line), "an end line has to follow the board line")
+            self.take_end(*numbers_of(line))
+        elif order:
+            self.end_order()
+            self.take_order(Order(*map(int, order.groups()[:3]), fate=order[4].decode()))
+        elif fill:
+            self.take_fill(Fill(*map(int, fill.groups())))
+        else:
+            require(BOARD_LINE.fullmatch(line), "it is no line of a report" if line[-1:] == b"\n" else "it is cut")
+            self.end_order()
+            self.take_board(list(numbers_of(line)))
+
+    def take_order(self, order):
+        self.rows[order.file] += 1
+        require(order.root == len(self.orders) + 1, "order %d comes next" % (len(self.orders) + 1))
+        require(1 <= order.file <= MOST_FILES, "a replay has at most %d files, from 1" % MOST_FILES)
+        require(order.row == self.rows[order.file] <= MOST_ROWS, "the rows of a file come in turn from 1")
+        require(order.fate in FATES, "that is no fate")
+        require(order.fate not in ("repeated", "cancelled") or self.rest[order.file], "no order of its file rests")
+        self.rest[order.file] += {"rested": 1, "cancelled": -1}.get(order.fate, 0)
+        self.orders.append(order)
+
+    def take_fill(self, fill):
+        require(fill.number == len(self.fills) + 1, "fill %d comes next" % (len(self.fills) + 1))
+        require(0 < fill.taker == len(self.orders), "the taker is the order above it")
+        require(self.orders[-1].fate in TRADES, "an order with that fate has no fills")
+        require(0 < fill.maker < fill.taker, "the maker is an earlier order")
+        require(self.orders[fill.maker - 1].fate == "rested", "the maker did not rest")
+        require(1 <= fill.price <= MOST_NUMBER, "that is no price")
+        require(1 <= fill.quantity <= MOST_NUMBER, "that is no quantity")
+        require(self.prices.setdefault(fill.maker, fill.price) == fill.price, "the maker has another price")
+        if self.last:
+            self.fill_up(self.last.maker)
+            step = fill.price - self.last.price
+            require(step * self.way >= 0, "the prices of an order's fills rise or fall")
+            require(step or fill.maker > self.last.maker, "at one price the earlier maker comes first")
+            self.way = self.way or step
+        require(fill.maker not in self.gone, "the maker was filled before")
+        self.last = fill
+        self.fills.append(fill)
+
+    def fill_up(self, maker):
+        """Nothing is left of a maker."""
+        self.gone.add(maker)
+        self.rest[self.orders[maker - 1].file] -= 1
+
+    def end_order(self):
+        """The last order has no more fills."""
+        fate = self.orders[-1].fate if self.orders else None
+        require(fate != "filled" or self.last, "an order that was filled has a fill")
+        if self.last and fate != "filled":
+            self.fill_up(self.last.maker)
+        self.last, self.way = None, 0
+
+    def take_board(self, board):
+        counts = [self.rows[file] for file in range(1, len(board) + 1)]
+        require(board == counts and sum(counts) == len(self.orders), "it does not count the orders of each file")
+        self.board = board
+
+    def take_end(self, orders, fills, resting):
+        require((orders, fills) == (len(self.orders), len(self.fills)), "it does not count the orders and fills")
+        fates, most = Counter(order.fate for order in self.orders), sum(self.rest.values())
+        least = max(fates["rested"] - len(self.prices) - fates["cancelled"], 0)
+        require(least <= resting <= most, "from %d to %d orders can rest in the end" % (least, most))
+        self.resting = resting
 
 
-def run(main):
-    """Runs a script's main: what goes wrong is one line on standard error, and the status is then 2."""
-    for stream in (sys.stdout, sys.stderr):
-        stream.reconfigure(encoding="utf-8", errors="backslashreplace")
-    try:
-        status = main()
-        sys.stdout.flush()
-    except (Bad, OSError, KeyboardInterrupt, MemoryError) as error:
-        status, line = 2, str(error) or type(error).__name__
-        print("%s: %s" % (os.path.basename(sys.argv[0]), line.replace("\n", " ")), file=sys.stderr)
-        os.dup2(os.open(os.devnull, os.O_WRONLY), 1)  # what could not be written is dropped
-    sys.exit(status)
-
-
-def shown(text, most=60):
-    """A line as it can be printed: bytes that are not ASCII text as escapes, and cut where it is long."""
-    if isinstance(text, bytes):
-        text = text.decode("latin-1")
-    cut = text if len(text) <= most else text[:most] + ".."
-    return ascii(cut)
-
-
-def named(path):
-    """A file's name as a sentence can have it."""
-    return path if re.fullmatch("[A-Za-z0-9_./+,@-]+", path) else ascii(path)
-
-
-def read_bytes(path):
-    """The bytes of a file."""
-    try:
-        with open(path, "rb") as file:
-            return file.read()
-    except (OSError, ValueError) as error:
-        raise Bad("%s cannot be read: %s" % (named(path), getattr(error, "strerror", None) or error))
-
-
-def read_lines(path):
-    """The lines of a report, without their ends; the last has to have one too."""
-    lines = read_bytes(path).decode("latin-1").split("\n")
-    if lines == [""]:
-        raise Bad("%s is no report: it is empty" % named(path))
-    if lines.pop() != "":
-        raise Bad("%s is no report: its last line, %d, is cut" % (named(path), len(lines) + 1))
-    return lines
+def numbers_of(line):
+    return (int(word) for word in line.split()[1:])
 
 
 def read_report(path):
-    """The report in a file: every line has its form and its place, and its counts agree."""
-    lines = read_lines(path)
-    orders, fills = [], []
-    for at, line in enumerate(lines, 1):
-        found = ORDER_LINE.fullmatch(line)
-        if found and found[4] in FATES and int(found[1]) == len(orders) + 1:
-            orders.append(Order(int(found[1]), int(found[2]), int(found[3]), found[4]))
-            continue
-        numbers = [int(word) for word in line.split(" ")[1:]] if FILL_LINE.fullmatch(line) else None
-        if numbers and numbers[:2] == [len(fills) + 1, len(orders)] and 0 < numbers[2] < numbers[1]:
-            fills.append(Fill(*numbers))
-            continue
-        if BOARD_LINE.fullmatch(line):
-            break
-        raise Bad("%s is no report: its line %d is %s" % (named(path), at, shown(line)))
-    else:
-        raise Bad("%s is no report: it has no board line and no end line" % named(path))
-    board = [int(word) for word in line.split(" ")[1:]]
-    counts = [0] * (len(board) + 1)
-    for order in orders:
-        counts[order.file if 0 < order.file <= len(board) else 0] += 1
-    if counts != [0] + board:
-        raise Bad("%s is no report: its board line, %d, does not count its orders" % (named(path), at))
-    if len(lines) == at or not END_LINE.fullmatch(lines[at]):
-        raise Bad("%s is no report: its line %d is no end line" % (named(path), at + 1))
-    ends = [int(word) for word in lines[at].split(" ")[1:]]
-    if ends[:2] != [len(orders), len(fills)] or len(lines) > at + 1:
-        raise Bad("%s is no report: its end line, %d, does not count it, or is not the last"
-                  % (named(path), at + 1))
-    return Report(orders, fills, board, ends[2])
-
-
-def number(field, least):
-    """The number that a field spells, or None."""
-    if not re.fullmatch(b"[0-9]{1,10}", field) or not least <= int(field) <= MOST_NUMBER:
-        return None
-    return int(field)
-
-
-def rows_of(data):
-    """The rows of a file's bytes, each with the number of its line: lines without bytes are no rows."""
-    return [(at, line) for at, line in enumerate(data.split(b"\n"), 1) if line]
-
-
-def order_of(row, line):
-    """The order of a row, or Refused with the row and its first refused part."""
-    fields = line.split(b",")
-    if row > MOST_ROWS or len(fields) != 5:
-        raise Refused(row, "toomany" if row > MOST_ROWS else "fields")
-    kind, name, side, price, quantity = fields
-    found = Row(number(name, 0), side.decode("latin-1"), number(price, 1), number(quantity, 1))
-    is_refused = {"kind": kind != b"L", "id": found.id is None, "side": side not in (b"B", b"S"),
-                  "price": found.price is None, "quantity": found.quantity is None}
-    for part in is_refused:
-        if is_refused[part]:
-            raise Refused(row, part)
-    return found
+    """The report in a file, or Bad with the first line that no replay prints there."""
+    reading, at, line = Reading(), 0, b""
+    try:
+        for at, line in enumerate(io.BytesIO(read_bytes(path, MOST_REPORT)), 1):
+            reading.take(line)
+    except Wrong as wrong:
+        raise Bad("%s is no report: its line %d is %s, but %s" % (named(path), at, shown(line.rstrip(b"\n")), wrong))
+    if reading.resting is None:
+        raise Bad("%s is no report: it ends after line %d, without an end line" % (named(path), at))
+    return Report(reading.orders, reading.fills, reading.board, reading.resting)

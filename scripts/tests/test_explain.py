@@ -1,13 +1,29 @@
 """explain: each line that the program may write, and lines that it never writes."""
-from common import Case
+import re
 
+from common import Case, content
+
+ALLOWED = "Allowed is replay and the name of one file, which is UTF-8, not empty, and does not begin with -"
+LEAST_MEMORY = int(re.search(r"LEAST_MEMORY = (\d+)", content("scripts", "explain").decode())[1])
 LINES = [
     ("hm: memory", ["replay", "f"], "Memory ran out (status 1)"),
-    ("hm: words", [], "the first word has to be replay, and is missing"),
-    ("hm: words", ["frob", "f"], "is 'frob'"),
-    ("hm: words", ["replay"], "there stand 0 words"),
-    ("hm: words", ["replay", "-x"], "'-x' is empty or begins with -"),
-    ("hm: words", ["replay", b"\xff"], "is not UTF-8"),
+    ("hm: memory", ["./hm", "replay", "f"], "at least %d MB of address space" % LEAST_MEMORY),
+    ("hm: words", [], "the first word has to be replay, and there is none. Allowed is replay and the name of one file"),
+    ("hm: words", ["frob", "f"], "is 'frob'", ALLOWED),
+    ("hm: words", ["--help"], "is '--help'", ALLOWED),
+    ("hm: words", ["./hm", "--help"], "is '--help'", ALLOWED),
+    ("hm: words", ["./hm", "hm", "replay", "f"], "is 'hm'", ALLOWED),
+    ("hm: words", ["replay"], "there stand 0 words", ALLOWED),
+    ("hm: words", ["../x/hm", "replay", "a", "b"], "there stand 2 words", ALLOWED),
+    ("hm: words", ["replay", ""], "the file's word is empty", ALLOWED),
+    ("hm: words", ["replay", "-x"], "'-x' begins with -, and ./-x would name the same file", ALLOWED),
+    ("hm: words", ["replay", b"\xff"], "is not UTF-8", ALLOWED),
+    ("hm: text 1 2 price", ["./hm", "replay", "FILE"], "Row 2 of FILE (its line 3)"),
+    ("hm: text 1 2 price", ["crates/hm_tool/out/hm_tool", "replay", "FILE"], "Row 2 of FILE (its line 3)"),
+    ("hm: text 1 1 kind", ["replay", "MARK"], "begins with a UTF-8 byte order mark (ef bb bf)"),
+    ("hm: text 1 1 fields", ["replay", "WIDE"], "begins with a UTF-16 byte order mark (ff fe)"),
+    ("hm: text 1 1 quantity", ["replay", "CRLF"], "ends in a carriage return, as where lines end in CR LF: tr -d"),
+    ("hm: text 1 2 fields", ["replay", "CRLF"], "ends in a carriage return"),
     ("hm: text 1 2 price", ["replay", "FILE"], "Row 2 of FILE (its line 3)", "'L,2,B,0,5'", "from 1 to"),
     ("hm: text 1 3 fields\n", ["replay", "FILE"], "Row 3 of FILE", "'a\\xff'", "exactly five fields"),
     ("hm: text 1 1 kind", ["replay", "FILE"], "that row is accepted"),
@@ -25,9 +41,11 @@ NO_LINES = [
     ("hm: text 1 9 price", "replay", "FILE"),
     ("hm: text 2 1 price", "replay", "FILE"),
     ("hm: text 1 1 weight", "replay", "FILE"),
+    ("hm: text 1 1000002 price", "replay", "FILE"),
     ("hm: text 1 %s price" % ("9" * 9999), "replay", "FILE"),
     ("hm: read 0", "replay", "FILE"),
     ("hm: words", "replay", "FILE"),
+    ("hm: words", "./hm", "replay", "FILE"),
     ("hm: building the program", "replay", "FILE"),
     (b"\xff\x00"[:1], "replay", "FILE"),
 ]
@@ -37,6 +55,9 @@ class Explain(Case):
     def setUp(self):
         super().setUp()
         self.made(b"L,1,B,10,5\n\nL,2,B,0,5\na\xff\n", "FILE")
+        self.made(b"\xef\xbb\xbfL,1,B,10,5\n", "MARK")
+        self.made("\ufeffL,1,B,10,5\n".encode("utf-16-le"), "WIDE")
+        self.made(b"L,1,B,10,5\r\n\r\n", "CRLF")
 
     def test_each_line(self):
         for line, words, *parts in LINES:

@@ -105,8 +105,8 @@ class Program(Case):
             os.chmod(os.path.join(self.folder, name), 0o755)
         done = self.call(os.path.join(self.folder, "demo", "run"))
         self.assertEqual((done.returncode, done.stdout), (0, content("crates", "hm_tool", "stdout")))
-        with open(os.path.join(self.folder, "demo", "out", "first.svg"), "rb") as picture:
-            self.assertIn(b"30 orders of 1 file, 24 fills", picture.read())
+        with open(os.path.join(self.folder, "demo", "first.svg"), "rb") as picture:
+            self.assertEqual(picture.read(), content("demo", "first.svg"))
 
     def test_the_plain_replay_agrees_on_random_files(self):
         chance = random.Random(7)

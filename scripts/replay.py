@@ -1,0 +1,101 @@
+"""A plain replay, written from docs/FORMATS.md; it shares no code with the program. Unproved."""
+import heapq
+import io
+
+from calls import shown
+from formats import ORDER_LINE
+
+
+class Unsound(Exception):
+    """The first line of a report that is not the one of its interleaving: its number, and what is said of it."""
+
+
+class Book:
+    """A plain book: the resting orders of each side, best first."""
+
+    def __init__(self):
+        self.heaps = {"B": [], "S": []}  # (key, root number, price): the least goes first
+        self.left = {}  # root number -> [quantity left, name of the order]
+        self.names = set()  # (file, id) of the resting orders
+        self.root = self.fills = 0
+
+    def best(self, side):
+        """The best price of a side, or None."""
+        return self.heaps[side][0][2] if self.heaps[side] else None
+
+    def apply(self, file, row, order):
+        """The lines of the report for one order: its own, and then those of its fills."""
+        self.root += 1
+        name, left, fills = (file, order.id), order.quantity, []
+        fate = "repeated" if name in self.names else None
+        others = self.heaps["S" if order.side == "B" else "B"]
+        while fate is None and left > 0 and others:
+            _, maker, price = others[0]
+            if price > order.price if order.side == "B" else price < order.price:
+                break
+            resting = self.left[maker]
+            taken = min(left, resting[0])
+            left, resting[0], self.fills = left - taken, resting[0] - taken, self.fills + 1
+            fills.append("fill %d %d %d %d %d" % (self.fills, self.root, maker, price, taken))
+            if resting[0] == 0:
+                heapq.heappop(others)
+                self.names.remove(self.left.pop(maker)[1])
+        if fate is None:
+            fate = "rested" if left else "filled"
+            if left:
+                key = -order.price if order.side == "B" else order.price
+                heapq.heappush(self.heaps[order.side], (key, self.root, order.price))
+                self.left[self.root] = [left, name]
+                self.names.add(name)
+        return ["order %d %d %d %s" % (self.root, file, row, fate)] + fills
+
+
+class Walk:
+    """A report beside the replay of its own interleaving, line by line."""
+
+    def __init__(self, data, files):
+        self.lines, self.at, self.there = io.BytesIO(data), 0, b""
+        self.files, self.done, self.book = files, [0] * len(files), Book()
+
+    def check(self, each=lambda book: None):
+        """Reads the report to its end, or tells of its first wrong line. After each order the book is shown."""
+        for _ in range(sum(map(len, self.files))):
+            file, row = self.next_row()
+            own, *fills = self.book.apply(file, row, self.files[file - 1][row - 1])
+            self.require(own)
+            for fill in fills:
+                self.step()
+                self.require(fill)
+            each(self.book)
+        for last in ("board" + "".join(" %d" % rows for rows in self.done),
+                     "end %d %d %d" % (self.book.root, self.book.fills, len(self.book.left))):
+            self.step()
+            self.require(last)
+        self.step()
+        if self.there:
+            self.wrong("nothing, since the report is over")
+        return self.at - 1
+
+    def step(self):
+        self.there, self.at = self.lines.readline(), self.at + 1
+
+    def next_row(self):
+        """The file and the row that the next line names; it has to be a file's next row."""
+        self.step()
+        found = ORDER_LINE.fullmatch(self.there)
+        file = int(found[2]) if found else 0
+        if 1 <= file <= len(self.files) and int(found[3]) == self.done[file - 1] + 1 <= len(self.files[file - 1]):
+            self.done[file - 1] += 1
+            return file, self.done[file - 1]
+        nexts = ["row %d of file %d" % (done + 1, at) for at, done in enumerate(self.done, 1)
+                 if done < len(self.files[at - 1])]
+        self.wrong("an order line of %s, for order %d" % (" or ".join(nexts), self.book.root + 1))
+
+    def require(self, text):
+        """The line has to be this one. A line that is cut is none."""
+        if self.there != text.encode() + b"\n":
+            self.wrong(shown(text) + (", ended by a line feed" if self.there == text.encode() else ""))
+
+    def wrong(self, wanted):
+        there = "has " + shown(self.there.rstrip(b"\n")) if self.there else "is missing"
+        raise Unsound(self.at, "%s, and there should be %s" % (there, wanted))
