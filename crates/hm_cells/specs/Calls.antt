@@ -2,7 +2,7 @@
 use Rattle.std.specs.Prelude.{◌≡◌, ◌≢◌, ℕ, zero, suc, ◌+◌, ◌<◌, List, [], ◌∷◌, ◌++◌, Option, Some, None, IfSome, Result, Ok, Err, Contains, map, slice_index_or, unwrap_or}
 use Rattle.atomic_table.specs.Seated.{TableId}
 use Rattle.hm_shape.specs.declared.version.Version.{Version}
-use Rattle.hm_shape.specs.declared.version.TheConstants.{FIRST_NUMBER, FIRST_REFERENCE, LINK, STAMP}
+use Rattle.hm_shape.specs.Layout.{first_number, first_reference, link_at, stamp_at}
 use Rattle.hm_shape.specs.Words.{naming_word}
 use Rattle.hm_model.specs.declared.object.Name.{Name}
 use Rattle.hm_model.specs.declared.object.Contents.{Contents}
@@ -79,7 +79,7 @@ module _ {U : Type 0} where
   -- a reference of the caller's next version is to the object of the version that the word names
   abbrev pub drafted_name : Part U → ℕ → Option Name
   drafted_name p i =
-      place_name p.hands.held (version_in (drafted_word p (FIRST_REFERENCE + i)))
+      place_name p.hands.held (version_in (drafted_word p (first_reference + i)))
 
   -- the references of the caller's next version
   abbrev pub drafted_refs : Part U → Refs
@@ -87,7 +87,7 @@ module _ {U : Type 0} where
 
   -- its numbers
   abbrev pub drafted_numbers : Part U → Numbers
-  drafted_numbers p = map (λ i. drafted_word p (FIRST_NUMBER + i))
+  drafted_numbers p = map (λ i. drafted_word p (first_number + i))
       (0 ∷ 1 ∷ 2 ∷ 3 ∷ 4 ∷ 5 ∷ 6 ∷ 7 ∷ 8 ∷ 9 ∷ [])
 
   -- the caller's next version as the first of a new object
@@ -106,7 +106,7 @@ module _ {U : Type 0} where
   -- a draft is whole where its words 1 to 15 are written, its stamp as 0
   pub record IsWhole (p : Part U) : Type 0 where
     pub written : AreWrittenFrom p 1
-    pub stamp : drafted_word p STAMP ≡ 0
+    pub stamp : drafted_word p stamp_at ≡ 0
 
   -- the entry that a load of a link is to make, where it finds 0
   abbrev pub wanted : Facts U → Known → Want → Option Entry
@@ -149,7 +149,7 @@ module _ {U : Type 0} where
 
   -- a draft is a whole copy where its link is 0, and its other words are what the copy holds
   pub record IsWholeCopy (p : Part U) (x : Contents) : Type 0 where
-    pub link : IsWritten p.draft.written LINK 0
+    pub link : IsWritten p.draft.written link_at 0
     pub built : IsBuilt p.hands.held p.draft.written x
 
   -- a field that is given is one of an object's, and the place of its value, if one is given, is set

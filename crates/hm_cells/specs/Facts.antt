@@ -4,7 +4,7 @@ use Rattle.std.specs.List.{find, list_any}
 use Rattle.std.specs.Option.{option_map}
 use Rattle.atomic_table.specs.Seated.{TableId}
 use Rattle.hm_shape.specs.declared.version.Version.{Version}
-use Rattle.hm_shape.specs.declared.version.TheConstants.{VERSION_WORDS}
+use Rattle.hm_shape.specs.Layout.{version_words}
 use Rattle.hm_shape.specs.Versions.{version_at}
 use Rattle.hm_model.specs.declared.object.Name.{Name}
 use Rattle.hm_model.specs.declared.entry.Entry.{Entry}
@@ -148,7 +148,7 @@ module _ {U : Type 0} where
       pub number : p.number < p.site.shape.callers
       pub region : p.draft.region < p.site.shape.regions
       pub room : p.draft.used ≤ p.site.shape.versions
-      pub wide : length p.draft.written ≡ VERSION_WORDS
+      pub wide : length p.draft.written ≡ version_words
       -- the words that it has written name versions that it holds
       pub named : (j w : ℕ) → is_naming j ≡ true → IsWritten p.draft.written j w
           → Names p.hands.held w

@@ -1,6 +1,6 @@
 //! The steps of the machine that move one word: one call a step.
 ghost use Rattle.std.specs.Prelude.{◌≡◌, ◌<◌, ◌≤◌, ◌^◌, ◌⊎◌, true, None, IfOk};
-ghost use Rattle.hm_shape.specs.declared.version.TheConstants.{FIRST_NUMBER, FIRST_REFERENCE, VERSION_WORDS};
+ghost use Rattle.hm_shape.specs.Layout.{first_number, first_reference, version_words};
 ghost use Rattle.hm_shape.specs.Words.{naming_word};
 ghost use Rattle.hm_moves.specs.declared.moving.Act.TheVariants.{Looks, Builds};
 ghost use Rattle.hm_moves.specs.declared.moving.Look.TheVariants.{LoadLink};
@@ -33,7 +33,7 @@ pub fn load_field<U: Usage>(
 ) -> u64
     requires cells { Fits pass.old cells.now }
     requires look { IsLookable pass.old v }
-    requires word { (0 < i) × (i < VERSION_WORDS) }
+    requires word { (0 < i) × (i < version_words) }
     requires hand { HasHand pass.old.part }
     ensures took { Takes U.lawful U.allowed pass.old (Looks (field_look (known_at pass.old v) i)) result
         pass.new }
@@ -48,9 +48,9 @@ pub fn load_field<U: Usage>(
 
 // The version that word `i` of a version names, where that is a reference.
 fn named_by(i: u32, word: u64) -> Option<Version>
-    ensures named { FIRST_REFERENCE ≤ i → i < FIRST_NUMBER → word ≤ 2 ^ 32
+    ensures named { first_reference ≤ i → i < first_number → word ≤ 2 ^ 32
         → result ≡ version_in word }
-    ensures none { (i < FIRST_REFERENCE) ⊎ (FIRST_NUMBER ≤ i) → result ≡ None }
+    ensures none { (i < first_reference) ⊎ (first_number ≤ i) → result ≡ None }
 {
     if (FIRST_REFERENCE..FIRST_NUMBER).contains(&i) {
         Version::named(word)
@@ -94,7 +94,7 @@ pub fn load_link<U: Usage>(
 pub fn store_own<U: Usage>(cells: &Cells<U>, pass: &mut Pass<U>, i: u32, word: u64)
     requires cells { Fits pass.old cells.now }
     requires room { HasRoom pass.old.part }
-    requires word { i < VERSION_WORDS }
+    requires word { i < version_words }
     requires named { is_naming i ≡ true → Names pass.old.part.hands.held word }
     ensures took { Takes U.lawful U.allowed pass.old (Builds (StoreOwn i word)) word pass.new }
     ensures sound { IsSound U.lawful U.allowed pass.new }

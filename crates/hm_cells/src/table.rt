@@ -1,6 +1,6 @@
 //! The Table, its rule, and one step on it.
 ghost use Rattle.std.specs.Prelude.{◌≡◌, ◌<◌};
-ghost use Rattle.hm_shape.specs.declared.version.TheConstants.{LINK, VERSION_WORDS};
+ghost use Rattle.hm_shape.specs.Layout.{link_at, version_words};
 
 use crate::grip::Grip;
 use crate::knowledge::{Knowledge, Opening};
@@ -181,7 +181,7 @@ impl<U: Usage> Cells<U> {
     ) -> u64
         requires own { seat.old.table_id ≡ self.now.table }
         requires version { IsVersionOf self.now.site.shape v }
-        requires word { i < VERSION_WORDS }
+        requires word { i < version_words }
         requires ready { IsReady U.lawful U.allowed seat.old.me.0 J.picked J.place
             (Loads J.picked (word_at self.now.site.shape v i)) }
         ensures own { seat.new.table_id ≡ seat.old.table_id }
@@ -204,7 +204,7 @@ impl<U: Usage> Cells<U> {
     )
         requires own { seat.old.table_id ≡ self.now.table }
         requires version { IsVersionOf self.now.site.shape v }
-        requires word { i < VERSION_WORDS }
+        requires word { i < version_words }
         requires ready { IsReady U.lawful U.allowed seat.old.me.0 J.picked J.place
             (Stores U.lawful U.allowed J.picked (word_at self.now.site.shape v i) value) }
         ensures own { seat.new.table_id ≡ seat.old.table_id }
@@ -228,7 +228,7 @@ impl<U: Usage> Cells<U> {
         requires own { seat.old.table_id ≡ self.now.table }
         requires version { IsVersionOf self.now.site.shape v }
         requires ready { IsReady U.lawful U.allowed seat.old.me.0 J.picked J.place
-            (Exchanges J.picked (word_at self.now.site.shape v LINK) (naming_word (Some next))) }
+            (Exchanges J.picked (word_at self.now.site.shape v link_at) (naming_word (Some next))) }
         ensures own { seat.new.table_id ≡ seat.old.table_id }
         ensures slots { seat.new.me.1 ≡ seat.old.me.1 }
         ensures told { Learns U.lawful U.allowed J.picked J.place seat.old.me.0 result seat.new.me.0 }

@@ -1,6 +1,6 @@
 //! Words of a caller's next version.
 ghost use Rattle.std.specs.Prelude.{◌≡◌, ℕ, ◌+◌, ◌<◌, ◌≤◌, IfSome, All, length, map, slice_index};
-ghost use Rattle.hm_shape.specs.declared.version.TheConstants.{VERSION_WORDS};
+ghost use Rattle.hm_shape.specs.Layout.{version_words};
 ghost use Rattle.hm_shape.specs.Words.{naming_word};
 ghost use Rattle.hm_model.specs.Sight.{AreSet, names_of};
 ghost use Rattle.hm_moves.specs.Allowed.{HasRoom};
@@ -124,7 +124,7 @@ pub(crate) fn word_of(v: Option<Version>) -> u64
 fn write<U: Usage>(cells: &Cells<U>, pass: &mut Pass<U>, first: u32, words: &[u64])
     requires works { Works U.lawful U.allowed pass.old cells.now }
     requires room { HasRoom pass.old.part }
-    requires place { first + length words.now ≤ VERSION_WORDS }
+    requires place { first + length words.now ≤ version_words }
     requires lasting { (i : ℕ) → i < length words.now
         → Lasts pass.old (first + i) (slice_index words.now i) }
     ensures wrote { Writes pass.old first words.now (length words.now) pass.new }
