@@ -55,7 +55,8 @@ module _ {U : Type 0} where
   move_by s act =
       record { act = act; let_go = first_idle s.roots s.hand s.part.hands.held }
 
-  -- the pass after an act that found the word x, which names `found`, where others made entries meanwhile
+  -- the pass after an act that found the word x, which names `found`, where others made entries
+  -- meanwhile
   abbrev pub after : Facts U → Act → List Entry → ℕ → Option Known → Facts U
   after s act between x found = record s {
     seen = seen_after s.seen (s.seen ++ between) (entry_of s.part.number act x);
@@ -122,7 +123,8 @@ module _ {U : Type 0} where
   field_of s (want.Number i value) = Number i value
   field_of s (want.Refer i value) = Refer i (name_of (sight_of s) value)
 
-  -- the entry that an exchange of a link is to make, where it finds 0; a want that stores nothing reads
+  -- the entry that an exchange of a link is to make, where it finds 0; a want that stores nothing
+  -- reads
   abbrev pub stored : Facts U → Known → Want → Entry
   stored s k Nothing = entry.Fetch s.part.number k.name k.contents
   stored s k Fetch = entry.Fetch s.part.number k.name k.contents
@@ -152,12 +154,14 @@ module _ {U : Type 0} where
     pub link : IsWritten p.draft.written link_at 0
     pub built : IsBuilt p.hands.held p.draft.written x
 
-  -- a field that is given is one of an object's, and the place of its value, if one is given, is set
+  -- a field that is given is one of an object's, and the place of its value, if one is given, is
+  -- set
   abbrev pub MayChange : Facts U → WantField → Type 0
   MayChange s (want.Number i value) = i < 10
   MayChange s (want.Refer i value) = (i < 4) × IfSome value (IsSet (sight_of s))
 
-  -- an exchange may want a store, or a conditional store with the stamp of the version that it is hung on
+  -- an exchange may want a store, or a conditional store with the stamp of the version that it is
+  -- hung on
   abbrev pub MayStore : Facts U → Known → Want → Type 0
   MayStore s k Nothing = ⊥
   MayStore s k Fetch = ⊥
@@ -165,7 +169,8 @@ module _ {U : Type 0} where
   MayStore s k (StoreIf stamp refs numbers) =
       AreSet (sight_of s) refs × (k.contents.stamp ≡ stamp)
 
-  -- a load may want a conditional store only with another stamp, and each place that is given has to be set
+  -- a load may want a conditional store only with another stamp, and each place that is given has
+  -- to be set
   abbrev pub MayWant : Facts U → Known → Want → Type 0
   MayWant s k Nothing = Unit {0}
   MayWant s k Fetch = Unit {0}
@@ -193,8 +198,8 @@ module _ {U : Type 0} where
       pub holds_new : IfSome (publishes act x) (Contains t.part.hands.held)
       pub tells : Tells (entry_of s.part.number act x) (sight_of s) (sight_of t)
 
-    -- a call is a meeting: the pass has then seen the longer of two histories, and goes on without an entry; it
-    -- took two steps, the joining and the load that tells what was seen
+    -- a call is a meeting: the pass has then seen the longer of two histories, and goes on without
+    -- an entry; it took two steps, the joining and the load that tells what was seen
     pub record Meets (s : Facts U) (other : List Entry) (t : Facts U) : Type 0 where
       pub is : t ≡ rested s (longer s.seen other) 2
       pub names : names_at t ≡ names_at s

@@ -30,8 +30,9 @@ pub record Made (U : Type 0) : Type 0 where
   pub table : TableId
   pub site : Site U
 
--- which cells a pass was made with, the history that it has seen, its caller, the versions at its root places
--- and in its hand, how many steps its calls took, and how often it moved the cycle on and tended
+-- which cells a pass was made with, the history that it has seen, its caller, the versions at its
+-- root places and in its hand, how many steps its calls took, and how often it moved the cycle on
+-- and tended
 pub record Facts (U : Type 0) : Type 0 where
   pub cells : TableId
   pub seen : List Entry
@@ -161,8 +162,9 @@ module _ {U : Type 0} where
       pub opened : Begins (opening_of p.site.start) seen
       pub history : IsLawful (lawful p.site.usage) (allowed p.site.usage) p.site.start seen
 
-    -- a pass is sound where its caller is sure, and has its own versions in its To region alone, in order of
-    -- place; where it holds each version once; and where what its 256 root places and its hand name is held
+    -- a pass is sound where its caller is sure, and has its own versions in its To region alone, in
+    -- order of place; where it holds each version once; and where what its 256 root places and its
+    -- hand name is held
     pub record IsSound (s : Facts U) : Type 0 where
       pub sure : IsSure s.seen s.part
       pub count : length s.part.hands.own ≡ s.part.draft.used

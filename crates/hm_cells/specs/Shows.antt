@@ -39,7 +39,8 @@ module _ {U : Type 0} where
   knowledge v = record { view = v; steps = 0; before = [] }
 
   -- what a seat knows after a move of its caller at a place
-  abbrev pub learning : Knowledge U → ℕ → Part U → Move → List Entry → ℕ → Option Known → Knowledge U
+  abbrev pub learning : Knowledge U → ℕ → Part U → Move → List Entry → ℕ → Option Known
+      → Knowledge U
   learning k place p m between x found = record k {
     view = view_after k.view place (k.view.seen ++ between) p m x found;
     steps = k.steps + 1;
@@ -96,8 +97,8 @@ module _ {U : Type 0} where
   abbrev pub spent : Knowledge U
   spent = knowledge spent_view
 
-  -- a seat that looks at the Table knows what it had seen before no more, and its caller at a place may let go
-  -- of a version
+  -- a seat that looks at the Table knows what it had seen before no more, and its caller at a place
+  -- may let go of a version
   abbrev pub looking : Knowledge U → ℕ → Part U → Option Known → Knowledge U
   looking k place p let_go = record k {
     view = view_letting k.view place p let_go;
@@ -122,8 +123,8 @@ module _ {U : Type 0} where
     pub turns : (x : ℕ) → becomes m.act x ≡ (if x == 0 then link else x)
 
   module _ (lawful : U → PlainStore → Type 0) (allowed : U → PlainStore → Entry → Type 0) where
-    -- the words and the views depict a good machine, and what a seat had seen before a meeting begins its
-    -- history
+    -- the words and the views depict a good machine, and what a seat had seen before a meeting
+    -- begins its history
     pub record Shows {S : Type 0} (g : Site U) (s : State S (Knowledge U)) : Type 0 where
       pub core : Core U
       pub good : Good lawful allowed g core
@@ -131,8 +132,10 @@ module _ {U : Type 0} where
       pub before : (j : ℕ) (k : Knowledge U) → get_elem? s.views j ≡ some k
           → Begins k.before core.heap.history
 
-    -- what a move tells the caller of a seat, who does not see the machine: x is the word that it found
-    pub record Learnt (m : Move) (k : Knowledge U) (place : ℕ) (p : Part U) (x : ℕ) (l : Knowledge U)
+    -- what a move tells the caller of a seat, who does not see the machine: x is the word that it
+    -- found
+    pub record Learnt (m : Move) (k : Knowledge U) (place : ℕ) (p : Part U) (x : ℕ)
+        (l : Knowledge U)
         : Type 0 where
       -- what others made since, and the version that the word named
       pub between : List Entry
@@ -152,8 +155,10 @@ module _ {U : Type 0} where
     Learns m place k x l =
         (p : Part U) → get_elem? k.view.parts place ≡ some p → Learnt m k place p x l
 
-    -- a look tells the caller of a seat what it is sure of, and that it goes on from what it had seen before
-    pub record Looked (let_go : Option Known) (k : Knowledge U) (place : ℕ) (p : Part U) (l : Knowledge U)
+    -- a look tells the caller of a seat what it is sure of, and that it goes on from what it had
+    -- seen before
+    pub record Looked (let_go : Option Known) (k : Knowledge U) (place : ℕ) (p : Part U)
+        (l : Knowledge U)
         : Type 0 where
       pub is : l ≡ looking k place p let_go
       pub sure : IsSure lawful allowed k.view.seen (letting p let_go)
@@ -177,7 +182,8 @@ module _ {U : Type 0} where
       pub value_is : (x : ℕ) → becomes m.act x ≡ value
       pub blind : (k l : Knowledge U) (at x y : ℕ) → Learnt m k at p x l → Learnt m k at p y l
 
-    -- a pass is seated where its caller is its seat's own, and the numbers beside it are the caller's
+    -- a pass is seated where its caller is its seat's own, and the numbers beside it are the
+    -- caller's
     pub record IsSeated (seat : Seat (Unit {0}) (Knowledge U)) (s : Facts U)
         (shape : Shape) (number to used : ℕ) : Type 0 where
       pub own : get_elem? seat.me.0.view.parts 0 ≡ some s.part

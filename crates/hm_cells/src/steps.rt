@@ -35,8 +35,8 @@ pub fn load_field<U: Usage>(
     requires look { IsLookable pass.old v }
     requires word { (0 < i) × (i < version_words) }
     requires hand { HasHand pass.old.part }
-    ensures took { Takes U.lawful U.allowed pass.old (Looks (field_look (known_at pass.old v) i)) result
-        pass.new }
+    ensures took { Takes U.lawful U.allowed
+        pass.old (Looks (field_look (known_at pass.old v) i)) result pass.new }
     ensures fit { IsFit pass.old.part.site.shape (done_seen pass.old.part) (known_at pass.old v) }
     ensures sound { IsSound U.lawful U.allowed pass.new }
 {

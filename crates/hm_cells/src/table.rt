@@ -186,7 +186,8 @@ impl<U: Usage> Cells<U> {
             (Loads J.picked (word_at self.now.site.shape v i)) }
         ensures own { seat.new.table_id ≡ seat.old.table_id }
         ensures slots { seat.new.me.1 ≡ seat.old.me.1 }
-        ensures told { Learns U.lawful U.allowed J.picked J.place seat.old.me.0 result seat.new.me.0 }
+        ensures told { Learns U.lawful U.allowed J.picked J.place
+            seat.old.me.0 result seat.new.me.0 }
     {
         let table = &self.table;
         let word = v.word_of(self.shape, i) as usize;
@@ -209,7 +210,8 @@ impl<U: Usage> Cells<U> {
             (Stores U.lawful U.allowed J.picked (word_at self.now.site.shape v i) value) }
         ensures own { seat.new.table_id ≡ seat.old.table_id }
         ensures slots { seat.new.me.1 ≡ seat.old.me.1 }
-        ensures told { Learns U.lawful U.allowed J.picked J.place seat.old.me.0 value seat.new.me.0 }
+        ensures told { Learns U.lawful U.allowed J.picked J.place
+            seat.old.me.0 value seat.new.me.0 }
     {
         let table = &self.table;
         let word = v.word_of(self.shape, i) as usize;
@@ -231,7 +233,8 @@ impl<U: Usage> Cells<U> {
             (Exchanges J.picked (word_at self.now.site.shape v link_at) (naming_word (Some next))) }
         ensures own { seat.new.table_id ≡ seat.old.table_id }
         ensures slots { seat.new.me.1 ≡ seat.old.me.1 }
-        ensures told { Learns U.lawful U.allowed J.picked J.place seat.old.me.0 result seat.new.me.0 }
+        ensures told { Learns U.lawful U.allowed J.picked J.place
+            seat.old.me.0 result seat.new.me.0 }
     {
         let table = &self.table;
         let word = v.word_of(self.shape, LINK) as usize;
@@ -247,7 +250,8 @@ impl<U: Usage> Cells<U> {
         requires carries { (p : Part U) × (get_elem? seat.old.me.0.view.parts J.place ≡ some p) }
         ensures own { seat.new.table_id ≡ seat.old.table_id }
         ensures slots { seat.new.me.1 ≡ seat.old.me.1 }
-        ensures told { LookTells U.lawful U.allowed J.picked.let_go J.place seat.old.me.0 seat.new.me.0 }
+        ensures told { LookTells U.lawful U.allowed J.picked.let_go J.place
+            seat.old.me.0 seat.new.me.0 }
     {
         let table = &self.table;
         table.shared.load::<Looking<J>>(seat, 0);

@@ -14,7 +14,8 @@ use Rattle.hm_core.specs.SeatStates.{SeatState}
 use Rattle.hm_core.specs.Hands.{HandState, fresh_hand}
 use Rattle.hm_core.specs.Running.{Moment, core_of, no_row, site_of}
 
--- a side object, where it is given, comes with its version behind those that there are, and has this name
+-- a side object, where it is given, comes with its version behind those that there are, and has
+-- this name
 pub record AddsSide (before : List Known) (side : Option Numbers) (name : Option Name)
     (after : List Known) : Type 0 where
   pub versions : after ≡ before ++ side_known (length before) (side ∷ [])

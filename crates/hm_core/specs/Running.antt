@@ -106,7 +106,8 @@ core_of m = record {
 abbrev pub own_view : Moment → ℕ → View AnyUsage
 own_view m q = seat_view m (seat_at m q)
 
--- a hand is sound where it writes into a region, and has room for one own version at each of its places
+-- a hand is sound where it writes into a region, and has room for one own version at each of its
+-- places
 pub record IsSoundHand (m : Moment) (h : HandState) : Type 0 where
   pub region : h.draft.region < m.shape.regions
   pub room : h.room ≡ m.shape.versions

@@ -130,7 +130,8 @@ impl Chronicle {
     // An entry that stores nothing. Without memory nothing changes.
     fn enter(&mut self, entry: &Entry) -> Result<(), AllocError>
         requires stands { Stands (store_of self.old.entries) entry.now }
-        requires effect { effect_of (store_of self.old.entries) entry.now ≡ store_of self.old.entries }
+        requires effect { effect_of (store_of self.old.entries) entry.now
+            ≡ store_of self.old.entries }
         ensures appended { OnOk result (self.new ≡ record {
           makers = self.old.makers;
           entries = self.old.entries ++ entry.now ∷ [];

@@ -16,7 +16,8 @@ pub record Reads (count : ℕ) (left left_after : Option (List ℕ)) (old new : 
   pub appended : new ≡ old ++ bytes
 
 -- all that the reader had left was read, unless that is so many bytes or more
-pub record ReadsAll (most count : ℕ) (left left_after : Option (List ℕ)) (old new : List ℕ) : Type 0 where
+pub record ReadsAll (most count : ℕ) (left left_after : Option (List ℕ)) (old new : List ℕ)
+    : Type 0 where
   pub reads : Reads count left left_after old new
   pub within : count ≤ most
   pub end : count < most → IsAtEnd left_after

@@ -15,7 +15,8 @@ IsBuilding (StoreIf q n stamp refs numbers answer) = ⊥
 
 module _ {U : Type 0} (lawful : U → PlainStore → Type 0)
     (allowed : U → PlainStore → Entry → Type 0) where
-  -- a caller builds where it makes such entries alone; the number of creates bounds what it takes of its room
+  -- a caller builds where it makes such entries alone; the number of creates bounds what it takes
+  -- of its room
   pub record Builds (c d : Sight U) (most : ℕ) : Type 0 where
     pub own : List Entry
     pub goes : Goes lawful allowed c d own

@@ -24,7 +24,8 @@ IsOutside r hand = (r.0 < hand.0) ⊎ (hand.0 + 4 ≤ r.0)
 abbrev pub snapshot_of : Contents → Snapshot
 snapshot_of x = record { stamp = x.stamp; numbers = x.numbers; set = map is_some x.refs }
 
--- where a conditional store is refused since the object changed, a fact may be said of the stamp found
+-- where a conditional store is refused since the object changed, a fact may be said of the stamp
+-- found
 abbrev pub IfChanged : StoreIfRefused → (ℕ → Type 0) → Type 0
 IfChanged refusal.Full P = Unit {0}
 IfChanged (refusal.Changed found) P = P found

@@ -43,7 +43,8 @@ pub record StoreStands (s : PlainStore) (n : Name) (field : Field) : Type 0 wher
   pub there : IsThere s n
   pub field_stands : FieldStands s field
 
--- a StoreIf answers Stored where its object has the given stamp, and else Changed with the stamp that it has
+-- a StoreIf answers Stored where its object has the given stamp, and else Changed with the stamp
+-- that it has
 abbrev pub Answers : ℕ → ℕ → Tried → Type 0
 Answers present given Stored = present ≡ given
 Answers present given (Changed stamp) = (present ≢ given) × (stamp ≡ present)
@@ -57,7 +58,8 @@ pub record StoreIfStands (s : PlainStore) (n : Name) (stamp : ℕ) (refs : Refs)
   pub given : AreThere s refs
   pub sized : IsSized refs numbers
 
--- an entry stands in a store where it may come next; a Fetch does where it answers what its object holds
+-- an entry stands in a store where it may come next; a Fetch does where it answers what its object
+-- holds
 abbrev pub Stands : PlainStore → Entry → Type 0
 Stands s (Create q n refs numbers) = CreateStands s q n refs numbers
 Stands s (Fetch q n answer) = contents_of s n ≡ Some answer

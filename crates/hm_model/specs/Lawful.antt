@@ -23,7 +23,8 @@ module _ (lawful : PlainStore → Type 0) (allowed : PlainStore → Entry → Ty
   AllCome s [] = Unit {0}
   AllCome s (e ∷ es) = MayCome s e × AllCome (effect_of s e) es
 
-  -- a history is lawful where it is legal, and its entries after the opening all come and leave a lawful store
+  -- a history is lawful where it is legal, and its entries after the opening all come and leave a
+  -- lawful store
   pub record IsLawful (start : Start) (history : List Entry) : Type 0 where
     pub legal : IsLegal start history
     pub come : AllCome (store_of (opening_of start)) legal.rest

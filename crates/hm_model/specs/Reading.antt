@@ -13,7 +13,8 @@ use Rattle.hm_model.specs.Sight.{Sight, root_of, HasHistory}
 
 module _ {U : Type 0} (lawful : U → PlainStore → Type 0)
     (allowed : U → PlainStore → Entry → Type 0) where
-  -- a caller has stored a number and fetched it, and the Fetch stands in a history that has the Store
+  -- a caller has stored a number and fetched it, and the Fetch stands in a history that has the
+  -- Store
   pub record ReadsBack (c d : Sight U) (at : Root) (i stored fetched : ℕ) : Type 0 where
     pub name : Name
     pub place : root_of c at ≡ Some name

@@ -21,10 +21,12 @@ pub record Sight (U : Type 0) : Type 0 where
   pub mine : List Entry
   -- the name at each of its root places
   pub roots : List (Option Name)
-  -- how many versions may be given to it before its collector acts, and whether a fetch may take one
+  -- how many versions may be given to it before its collector acts, and whether a fetch may take
+  -- one
   pub room : ℕ
   pub copying : Bool
-  -- the counts behind its room: places used of its To region, of how many, and regions free, of which kept back
+  -- the counts behind its room: places used of its To region, of how many, and regions free, of
+  -- which kept back
   pub used : ℕ
   pub span : ℕ
   pub free : ℕ
@@ -68,7 +70,8 @@ module _ {U : Type 0} where
   abbrev pub present : Sight U → PlainStore
   present c = store_of c.seen
 
-  -- a caller of a fresh heap has seen the opening alone, and names the common object alone, at root place 0
+  -- a caller of a fresh heap has seen the opening alone, and names the common object alone, at root
+  -- place 0
   pub record IsFresh (c : Sight U) : Type 0 where
     pub seen : c.seen ≡ opening_of c.start
     pub mine : c.mine ≡ calls_of c.number c.seen
@@ -85,7 +88,8 @@ module _ {U : Type 0} where
     pub number : d.number ≡ c.number
     pub span : d.span ≡ c.span
 
-  -- no call but that of tending changes whether it copies, what it keeps back, and the counts of moves and tends
+  -- no call but that of tending changes whether it copies, what it keeps back, and the counts of
+  -- moves and tends
   pub record IsUntended (c d : Sight U) : Type 0 where
     pub copying : d.copying ≡ c.copying
     pub kept : d.kept ≡ c.kept
@@ -135,7 +139,8 @@ module _ {U : Type 0} where
       pub goes : Goes c d own
       pub untended : IsUntended c d
 
-    -- a call makes an entry: it is the last that its caller has seen, behind what others made meanwhile
+    -- a call makes an entry: it is the last that its caller has seen, behind what others made
+    -- meanwhile
     pub record Enters (c d : Sight U) (e : Entry) : Type 0 where
       pub caller : IsSameCaller c d
       pub own : caller_of e ≡ c.number

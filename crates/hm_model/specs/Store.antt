@@ -46,7 +46,8 @@ abbrev pub with_changed : (Contents → Contents) → Name → PlainStore → Pl
 with_changed f n [] = []
 with_changed f n (p ∷ s) = if is_same p.0 n then (p.0, f p.1) ∷ s else p ∷ with_changed f n s
 
--- a store is well made where each maker's names are numbered from 0, and objects are sized and name one another
+-- a store is well made where each maker's names are numbered from 0, and objects are sized and name
+-- one another
 pub record IsWellMade (s : PlainStore) : Type 0 where
   pub numbered : (n : Name) (x : Contents)
       → contents_of s n ≡ Some x → n.count < made_count n.maker s

@@ -127,7 +127,8 @@ module _ {U : Type 0} where
   Turns known p k x (Create q n refs numbers) = ⊥
   Turns known p k x (Fetch q n answer) = ⊥
 
-  -- a version is hung behind another with what an entry makes of that, or without an entry as a copy
+  -- a version is hung behind another with what an entry makes of that, or without an entry as a
+  -- copy
   abbrev pub TurnsBy : (Name → Type 0) → Part U → Known → Contents → Option Entry → Type 0
   TurnsBy known p k x None = x ≡ k.contents
   TurnsBy known p k x (Some e) = Turns known p k x e
@@ -161,7 +162,8 @@ module _ {U : Type 0} where
     pub room : HasRoom p
     pub named : is_naming i ≡ true → Names p.hands.held word
 
-  -- an act may make its caller hold one version more, but for a load of a stamp and a store of an own word
+  -- an act may make its caller hold one version more, but for a load of a stamp and a store of an
+  -- own word
   abbrev pub MayHold : Part U → Act → Type 0
   MayHold p (Looks (LoadStamp at)) = Unit {0}
   MayHold p (Looks (LoadReference at i)) = HasHand p

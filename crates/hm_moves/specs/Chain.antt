@@ -1,4 +1,5 @@
--- Versions in the words of the Table: which are published, what their words say, and how links chain them.
+-- Versions in the words of the Table: which are published, what their words say, and how links
+-- chain them.
 use Rattle.std.specs.Prelude.{◌≡◌, ℕ, zero, suc, ◌+◌, ◌<◌, ◌≤◌, ◌==◌, List, slice_index, slice_index_or, Option, Some, None, if◌then◌else◌}
 use Rattle.hm_shape.specs.declared.shape.Shape.{Shape}
 use Rattle.hm_shape.specs.Layout.{first_number, first_reference, link_at, stamp_at}
@@ -66,7 +67,8 @@ abbrev pub IsLinked : Index → PlainStore → Known → ℕ → Type 0
 IsLinked index store k zero = contents_of store k.name ≡ Some k.contents
 IsLinked index store k (suc v) = (m : Known) × (m.version.0 ≡ v) × Follows index k m
 
--- the versions of an object are a chain: each has a link, the last has the greatest rank, and no two one rank
+-- the versions of an object are a chain: each has a link, the last has the greatest rank, and no
+-- two one rank
 pub record AreChained (s : Shape) (words : List ℕ) (index : Index) (store : PlainStore)
     : Type 0 where
   pub there : (k : Known) → IsPublished index k → IsThere store k.name

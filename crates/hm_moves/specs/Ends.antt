@@ -19,7 +19,8 @@ pub record EndsAfter (s : Shape) (h : Heap) (k : Known) (n : ℕ) : Type 0 where
   pub links : Links s h n k last
   pub none : link_of s h.words last ≡ 0
 
--- behind each published version its chain ends, after at most as many links as ranks are below the limit
+-- behind each published version its chain ends, after at most as many links as ranks are below the
+-- limit
 pub record ChainsEnd (s : Shape) (h : Heap) (done : ℕ) : Type 0 where
   pub ends : (k : Known) → IsPublished h.index k → (n : ℕ) × EndsAfter s h k n
   pub few : (k : Known) (n : ℕ) → IsPublished h.index k → EndsAfter s h k n

@@ -12,11 +12,13 @@ use Rattle.hm_moves.specs.Chain.{IsPublished, AreTrue, link_of}
 use Rattle.hm_moves.specs.Places.{HasHead, only_to}
 use Rattle.hm_moves.specs.Fresh.{all_known, fresh_index, side_known}
 
--- the stage is 0, and so is each caller's reply; each caller's roles are those of To at region 0 alone
+-- the stage is 0, and so is each caller's reply; each caller's roles are those of To at region 0
+-- alone
 abbrev pub head_words : Shape → List ℕ
 head_words s = replicate (s.callers + 1) 0 ++ replicate s.callers (only_to 0)
 
--- a reference to a starting object is the word that names its version, which has the object's count as number
+-- a reference to a starting object is the word that names its version, which has the object's count
+-- as number
 abbrev pub count_word : Option Name → ℕ
 count_word None = 0
 count_word (Some n) = n.count + 1
@@ -34,7 +36,8 @@ abbrev pub first_words : Shape → Start → List ℕ
 first_words s start =
     laid_words s start ++ replicate (word_count s - length (laid_words s start)) 0
 
--- words are those of a fresh heap where their head is, and say what the starting objects hold with each link 0
+-- words are those of a fresh heap where their head is, and say what the starting objects hold with
+-- each link 0
 pub record AreFirst (s : Shape) (start : Start) (words : List ℕ) : Type 0 where
   pub sized : IsSizedStart start
   pub wide : length words ≡ word_count s
@@ -42,8 +45,8 @@ pub record AreFirst (s : Shape) (start : Start) (words : List ℕ) : Type 0 wher
   pub contents : AreTrue s words (fresh_index start)
   pub links : (k : Known) → IsPublished (fresh_index start) k → link_of s words k ≡ 0
 
--- the k-th starting object is the side object that is given, if it is: its words come next, its word is the one that
--- names it, and the next starting object has the next number
+-- the k-th starting object is the side object that is given, if it is: its words come next, its
+-- word is the one that names it, and the next starting object has the next number
 pub record LaysSide (before : List ℕ) (k : ℕ) (side : Option Numbers) (word : ℕ)
     (after : List ℕ) (next : ℕ) : Type 0 where
   pub words : after ≡ before ++ flat_map known_words (side_known k (side ∷ []))

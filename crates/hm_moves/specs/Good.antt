@@ -48,8 +48,8 @@ AreApart (k ∷ ks) = (list_any (is_version k) ks ≡ false) × AreApart ks
 abbrev pub published_of : Hands → List Known
 published_of hands = hands.left ++ hands.own
 
--- a caller's draft lies at the first unused place of its To region; its written words are in the Table, and name
--- held versions
+-- a caller's draft lies at the first unused place of its To region; its written words are in the
+-- Table, and name held versions
 pub record IsDrafting (s : Shape) (q : ℕ) (d : Draft) (held : List Known) (h : Heap)
     : Type 0 where
   pub region : d.region < s.regions
@@ -60,7 +60,8 @@ pub record IsDrafting (s : Shape) (q : ℕ) (d : Draft) (held : List Known) (h :
       → slice_index h.words (word_at s (version_at s q d.region d.used) j) ≡ w
   pub named : (j w : ℕ) → is_naming j ≡ true → IsWritten d.written j w → Names held w
 
--- what a caller holds is published; and it lists just the published versions of its own regions, each once
+-- what a caller holds is published; and it lists just the published versions of its own regions,
+-- each once
 pub record AreIndexed (s : Shape) (q : ℕ) (index : Index) (hands : Hands) : Type 0 where
   pub held : (k : Known) → Contains hands.held k → IsPublished index k
   pub own : (k : Known) → Contains (published_of hands) k → IsOwn s q index k

@@ -1,4 +1,5 @@
--- The places of a heap's regions: which are used, how many versions were published there, and who owns them.
+-- The places of a heap's regions: which are used, how many versions were published there, and who
+-- owns them.
 use Rattle.std.specs.Prelude.{◌≡◌, ℕ, zero, suc, ◌+◌, ◌*◌, ◌<◌, ◌≤◌, ◌==◌, List, Option, Some, None, IsSome, slice_index, slice_set, replicate, if◌then◌else◌}
 use Rattle.hm_shape.specs.declared.shape.Shape.{Shape}
 use Rattle.hm_shape.specs.declared.roles.Role.TheVariants.{Free, To}
@@ -43,7 +44,8 @@ places_with places row None = places
 places_with places row (Some k) =
     record places { used = raised places.used row; made = raised places.made row }
 
--- no rank reaches this, where so many cycles are done: the number of all versions, once more than that
+-- no rank reaches this, where so many cycles are done: the number of all versions, once more than
+-- that
 abbrev pub rank_limit : Shape → ℕ → ℕ
 rank_limit s done = version_count s * (done + 1)
 
@@ -67,7 +69,8 @@ pub record ArePlaced (s : Shape) (index : Index) (used : ℕ → ℕ) : Type 0 w
       → index (row * s.versions + i) ≡ None
   pub filled : (row : ℕ) → used row ≤ s.versions
 
--- no rank passes the number of versions that were ever published, and a row is filled once each time it is free
+-- no rank passes the number of versions that were ever published, and a row is filled once each
+-- time it is free
 pub record AreRanked (s : Shape) (index : Index) (places : Places) (done : ℕ) : Type 0 where
   pub ranks : (k : Known) → IsPublished index k → k.rank < total places.made (row_count s)
   pub made : (row : ℕ) → places.made row ≤ s.versions * places.freed row + places.used row
@@ -84,8 +87,8 @@ pub record IsOwn (s : Shape) (q : ℕ) (index : Index) (k : Known) : Type 0 wher
 abbrev pub only_to : ℕ → ℕ
 only_to region = roles_word record { 0 = slice_set (replicate 8 Free) region To }
 
--- the head words say: the stage is Idle with number and done count 0, nobody has replied, and each caller has its To
--- region alone in use
+-- the head words say: the stage is Idle with number and done count 0, nobody has replied, and each
+-- caller has its To region alone in use
 pub record HasHead (s : Shape) (to : ℕ → ℕ) (words : List ℕ) : Type 0 where
   pub stage : slice_index words stage_at ≡ 0
   pub replies : (q : ℕ) → q < s.callers → slice_index words (reply_at q) ≡ 0

@@ -36,15 +36,17 @@ pub record KeepsChains (s : Shape) (h : Heap) : Type 0 where
   pub last : (k m : Known) → IsPublished h.index k → IsPublished h.index m → m.name ≡ k.name
       → link_of s h.words k ≡ 0 → link_of s h.words m ≡ 0 → m ≡ k
 
--- a rank is at most the number of versions that were ever published: of each region at most its places, and as many
--- again for each time that it was freed, which is at most once for each cycle that is done
+-- a rank is at most the number of versions that were ever published: of each region at most its
+-- places, and as many again for each time that it was freed, which is at most once for each cycle
+-- that is done
 pub record KeepsRanks (s : Shape) (h : Heap) (done : ℕ) : Type 0 where
   pub ranks : (k : Known) → IsPublished h.index k → k.rank ≤ total h.places.made (row_count s)
   pub rows : (row : ℕ) → h.places.used row ≤ s.versions
   pub made : (row : ℕ) → h.places.made row ≤ s.versions * h.places.freed row + h.places.used row
   pub freed : (row : ℕ) → h.places.freed row ≤ done
 
--- the history is legal, each seat has seen a beginning of it, and has there all calls of the callers that it carries
+-- the history is legal, each seat has seen a beginning of it, and has there all calls of the
+-- callers that it carries
 pub record KeepsHistory {U : Type 0} (g : Site U) (c : Core U) : Type 0 where
   pub legal : IsLegal g.start c.heap.history
   pub seen : (j : ℕ) (v : View U) → get_elem? c.views j ≡ some v
@@ -62,7 +64,8 @@ pub record IsSafe {U : Type 0} (g : Site U) (c : Core U) : Type 0 where
 
 module _ {U : Type 0} (lawful : U → PlainStore → Type 0)
     (allowed : U → PlainStore → Entry → Type 0) where
-  -- a machine leads to another by lawful moves, by letting go, by splits and joins, one after another
+  -- a machine leads to another by lawful moves, by letting go, by splits and joins, one after
+  -- another
   pub data Leads (c : Core U) : Core U → Type 0 where
     here : Leads c c
     moved : (d : Core U) (id place : ℕ) (v : View U) (p : Part U) (m : Move) → Leads c d

@@ -28,7 +28,8 @@ abbrev pub IsReference : ℕ → Option Known → Option Name → Type 0
 IsReference x None r = (x ≡ 0) × (r ≡ None)
 IsReference x (Some k) r = (x ≡ naming_word (Some k.version)) × (r ≡ Some k.name)
 
--- a word is the link of a version, and `found` the version that it names, of the same object and a greater rank
+-- a word is the link of a version, and `found` the version that it names, of the same object and a
+-- greater rank
 abbrev pub IsLink : Known → ℕ → Option Known → Type 0
 IsLink at x None = x ≡ 0
 IsLink at x (Some k) =
@@ -52,8 +53,10 @@ abbrev pub Found : Act → ℕ → Option Known → Type 0
 Found (Looks l) x found = LookFound l x found
 Found (Builds b) x found = BuildFound b x found
 
-module _ {U : Type 0} (lawful : U → PlainStore → Type 0) (allowed : U → PlainStore → Entry → Type 0) where
-  -- what a move tells its caller: x is the word that it found, and w the view of its seat afterwards
+module _ {U : Type 0} (lawful : U → PlainStore → Type 0)
+    (allowed : U → PlainStore → Entry → Type 0) where
+  -- what a move tells its caller: x is the word that it found, and w the view of its seat
+  -- afterwards
   pub record Told (g : Site U) (m : Move) (v : View U) (place : ℕ) (p : Part U) (x : ℕ)
       (w : View U) : Type 0 where
     -- what others made since, and the version that the word named

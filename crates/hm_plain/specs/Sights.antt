@@ -52,7 +52,8 @@ module _ {U : Type 0} where
     to_go = 0;
   }
 
-  -- a caller is plain where it is the only one of its heap, collects nothing, and uses each version once
+  -- a caller is plain where it is the only one of its heap, collects nothing, and uses each version
+  -- once
   pub record IsPlain (c : Sight U) : Type 0 where
     pub number : c.number ≡ 0
     pub alone : c.mine ≡ c.seen
@@ -64,8 +65,9 @@ module _ {U : Type 0} where
     pub moves : c.moves ≡ 0
     pub to_go : c.to_go ≡ 0
 
-  -- all that was seen is the caller's own, the table holds what the history leaves, its versions are those that the
-  -- history takes, with those that are left they are all, and places name objects
+  -- all that was seen is the caller's own, the table holds what the history leaves, its versions
+  -- are those that the history takes, with those that are left they are all, and places name
+  -- objects
   pub record Agree (v : View U) (objects : Stock) (roots : List (Option ℕ)) : Type 0 where
     pub alone : v.mine ≡ v.seen
     pub store : numbered objects.contents ≡ store_in v

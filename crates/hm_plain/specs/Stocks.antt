@@ -1,4 +1,5 @@
--- The table of objects: what each holds, in order of index, and how many versions are taken and left.
+-- The table of objects: what each holds, in order of index, and how many versions are taken and
+-- left.
 use Rattle.std.specs.Prelude.{◌≡◌, ℕ, ◌+◌, ◌≤◌, List, [], ◌∷◌, ◌++◌, length, Option, Some, None, All, replicate, slice_get, slice_set}
 use Rattle.hm_model.specs.declared.object.Contents.{Contents}
 use Rattle.hm_model.specs.Store.{Numbers}
@@ -33,13 +34,16 @@ pub record Changes (s t : Stock) (k : ℕ) (f : Contents → Contents) : Type 0 
   pub held : Holds s k was
   pub takes : Takes s t (slice_set s.contents k (f was))
 
--- a side object that is given is added with no references, and has the next index; else nothing is added
+-- a side object that is given is added with no references, and has the next index; else nothing is
+-- added
 abbrev pub AddsSide : Stock → Stock → Option Numbers → Option ℕ → Type 0
 AddsSide s t None index = (t ≡ s) × (index ≡ None)
 AddsSide s t (Some numbers) index =
-    Takes s t (s.contents ++ new_contents (replicate 4 None) numbers ∷ []) × (index ≡ Some (length s.contents))
+    Takes s t (s.contents ++ new_contents (replicate 4 None) numbers ∷ [])
+    × (index ≡ Some (length s.contents))
 
--- there is memory for the versions that are left, no stamp is above the versions taken, and references are indices
+-- there is memory for the versions that are left, no stamp is above the versions taken, and
+-- references are indices
 pub record IsSound (items : List Object) (used room capacity : ℕ) : Type 0 where
   pub space : length items + room ≤ capacity
   pub counted : length items ≤ used

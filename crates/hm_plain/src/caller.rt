@@ -59,7 +59,8 @@ impl<U: Usage> PlainCaller<U> {
     // What the object at a place holds, by a Fetch.
     fn read(&mut self, from: Root) -> Object
         requires { IsSet self.old from }
-        ensures fetched { Fetches U.lawful U.allowed self.old self.new from (contents_of_object result) }
+        ensures fetched { Fetches U.lawful U.allowed
+            self.old self.new from (contents_of_object result) }
         ensures roots { self.new.roots ≡ self.old.roots }
         ensures there { AreThere (present self.new) (indexed_names result.refs) }
         ensures stamp { result.stamp < u64.MAX }
