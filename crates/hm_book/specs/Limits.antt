@@ -23,3 +23,7 @@ admits_kind Cancel limits order = true
 -- whether the limits admit the order
 abbrev pub admits : Limits → Order → Bool
 admits limits order = admits_kind order.kind limits order
+
+-- the widest limits: any quantity up to 4294967295, and any price from 1 to 4294967295
+abbrev pub no_limits : Limits
+no_limits = record { max_quantity = 4294967295; low = 1; high = 4294967295 }

@@ -1,9 +1,12 @@
 //! Laws of the definitions that the contracts cite.
-ghost use Rattle.std.specs.Prelude.{◌≡◌, ◌↔◌, ◌<◌, ℕ, List, length, AllPairs, IfSome, IsNone};
+ghost use Rattle.std.specs.Prelude.{◌≡◌, ◌↔◌, ◌<◌, ℕ, true, List, length, AllPairs, IfSome, IsNone};
 ghost use Rattle.hm_orders.specs.declared.order.Order.{Order};
 ghost use Rattle.hm_orders.specs.declared.order.Side.{Side};
+ghost use Rattle.hm_orders.specs.Orders.{IsWellFormed};
 ghost use Rattle.hm_book.specs.declared.book.Resting.{Resting};
 ghost use Rattle.hm_book.specs.declared.limits.Limits.{Limits};
+ghost use Rattle.hm_book.specs.declared.limits.TheConstants.Limits.{NONE};
+ghost use Rattle.hm_book.specs.Limits.{admits, no_limits};
 ghost use Rattle.hm_book.specs.Trading.{best_opposite, trades};
 ghost use Rattle.hm_book.specs.Best.{IsBest, NoneOpposes};
 ghost use Rattle.hm_book.specs.Queue.{can_trade, traded_along, IsQueue};
@@ -33,4 +36,10 @@ pub fn a_book_stays_sound()
     ensures empty { IsSound empty_state }
     ensures next { (limits : Limits) (state : BookState) (order : Order)
         → IsSound state → IsSound (state_after limits state order) }
+{}
+
+/// The widest limits are these numbers, and they admit every order that a row can give.
+pub fn no_limits_admit_every_order()
+    ensures numbers { NONE ≡ no_limits }
+    ensures admitted { (order : Order) → IsWellFormed order → admits no_limits order ≡ true }
 {}

@@ -13,7 +13,10 @@ mod queue;
 mod trading;
 
 pub use book::{Book, Memory, Resting};
-pub use laws::{a_book_stays_sound, an_order_trades_along_its_queue, best_opposite_is_best};
+pub use laws::{
+    a_book_stays_sound, an_order_trades_along_its_queue, best_opposite_is_best,
+    no_limits_admit_every_order,
+};
 pub use limits::Limits;
 pub use priority::crosses;
 pub use trading::rest_of;
