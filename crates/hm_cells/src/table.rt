@@ -136,10 +136,10 @@ impl<U: Usage> Cells<U> {
     ghost use Rattle.hm_moves.specs.After.{view};
     ghost use Rattle.hm_cells.specs.Grips.{site_of};
     ghost use Rattle.hm_cells.specs.Shows.{IsReady, Loads, Stores, Exchanges, Learns, LookTells, knowledge, noted, noting, met};
-    ghost use Rattle.hm_moves.specs.FirstWords.{AreFirst};
+    ghost use Rattle.hm_moves.specs.FirstWords.{AreFirst, first_words};
     ghost use Rattle.hm_cells.specs.Making.{first_view, front, back};
 
-    /// A fresh Table over these words. Its one seat carries all callers.
+    /// A fresh Table over the words of a fresh heap. Its one seat carries all callers.
     pub(crate) fn open(
         alloc: Global,
         words: &[u64],
@@ -147,7 +147,8 @@ impl<U: Usage> Cells<U> {
     ) -> Result<(Cells<U>, Seat<(), Knowledge<U>>), AllocError>
         requires objects { starting_count opening.now.start ≤ opening.now.shape.versions }
         requires lawful { U.lawful opening.now.usage (store_of (opening_of opening.now.start)) }
-        requires words { AreFirst opening.now.shape opening.now.start words.now }
+        requires words { words.now ≡ first_words opening.now.shape opening.now.start }
+        requires first { AreFirst opening.now.shape opening.now.start words.now }
         ensures site { IfOk result (λ r. r.0.site ≡ site_of opening.now) }
         ensures table { IfOk result (λ r. r.1.table_id ≡ r.0.table) }
         ensures seat { IfOk result (λ r.
