@@ -83,6 +83,14 @@ text-whole lines done puts puts_after old new put =
     put.has ∙ ap (λ (tried : List (List ℕ)). bytes_after (joined tried) old)
     (all-tried put.tried put.others lines put.in_order put.whole)
 
+-- and each of them was one put
+pub count-whole : (lines : List (List ℕ)) (done : Unit {0}) (puts puts_after : ℕ)
+    (old new : Option (List ℕ)) → PutsLines lines (Ok done) puts puts_after old new
+    → puts_after ≡ count_after (length lines) puts
+count-whole lines done puts puts_after old new put =
+    put.counted ∙ ap (λ (tried : List (List ℕ)). count_after (length tried) puts)
+    (all-tried put.tried put.others lines put.in_order put.whole)
+
 -- and of lines that were not all put a front is written
 pub text-front : (lines : List (List ℕ)) (result : Result (Unit {0}) WriteRefused)
     (puts puts_after : ℕ) (old new : Option (List ℕ))

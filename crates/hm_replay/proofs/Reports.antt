@@ -1,16 +1,19 @@
 -- The report of one file.
-use Rattle.std.proofs.Common.{◌≡◌, ◌∙◌, ℕ, ◌+◌, cond, true, List, [], ◌∷◌, length, All, Bool, ap, refl, arith, nat_eq, eq-eqb, sym, append-nil, Option, Some, None, IfSome}
+use Rattle.std.proofs.Common.{◌≡◌, ◌∙◌, ℕ, ◌+◌, cond, true, List, [], ◌∷◌, length, All, Bool, ap, refl, arith, nat_eq, eq-eqb, sym, append-nil, Option, Some, None, IfSome, Ok}
 use Rattle.std.specs.List.{AllByRecursion, count_by}
 use Rattle.std.proofs.lemmas.List.Elements.{recursion_from_All}
 use Rattle.std.proofs.lemmas.List.Sums.{sum_by-cons}
+use Rattle.hm_edge.specs.Faults.{count_after}
 use Rattle.hm_edge.specs.Sinks.{bytes_after}
 use Rattle.hm_orders.specs.Rows.{orders_held}
-use Rattle.hm_orders.specs.ReportText.{AddsFront, report_text}
+use Rattle.hm_orders.specs.ReportText.{AddsFront, report_lines, report_text}
+use Rattle.hm_orders.specs.Putting.{PutsLines}
+use Rattle.hm_orders.proofs.Putting.{count-whole}
 use Rattle.hm_orders.specs.declared.order.Order.{Order}
 use Rattle.hm_orders.specs.declared.report.Done.{Done}
 use Rattle.hm_orders.specs.declared.report.Report.{Report}
 use Rattle.hm_book.specs.Run.{BookState, dones_of, empty_state, report_of, rows_by_file, state_after_all}
-use Rattle.hm_replay.specs.Replay.{IsHeld, no_limits, text_of, text_read}
+use Rattle.hm_replay.specs.Replay.{IsHeld, PutsReport, no_limits, text_of, text_read}
 
 -- one more where the test passes
 counted_head : {X : Type 0} (p : X → Bool) (x : X) (xs : List X) → p x ≡ true → count_by p (x ∷ xs) ≡ 1 + count_by p xs
@@ -49,4 +52,16 @@ front_written (Some bytes) orders applied report old new held same is written = 
   rest = [];
   is_front = append-nil (text_of orders) ∙ ap text_read (sym held.held);
   adds = written ∙ ap (λ (r : Report). bytes_after (report_text r) old) (is ∙ ap (report_of no_limits 1) same);
+}
+
+-- and each of its lines was one put
+pub report_put : (told : Option (List ℕ)) (orders applied : List Order) (report : Report) (done : Unit {0}) (puts puts_after : ℕ)
+    (old new : Option (List ℕ)) → IfSome told (IsHeld orders) → applied ≡ orders → report ≡ report_of no_limits 1 applied
+    → PutsLines (report_lines report) (Ok done) puts puts_after old new → IfSome told (λ bytes. PutsReport bytes puts puts_after)
+report_put None orders applied report done puts puts_after old new held same is put = tt
+report_put (Some bytes) orders applied report done puts puts_after old new held same is put = record {
+  orders = orders;
+  held = held;
+  counted = count-whole (report_lines report) done puts puts_after old new put
+      ∙ ap (λ (r : Report). count_after (length (report_lines r)) puts) (is ∙ ap (report_of no_limits 1) same);
 }

@@ -1,11 +1,12 @@
 -- What a replay of one file writes.
 use Rattle.std.specs.Prelude.{◌≡◌, ℕ, ◌+◌, ◌<◌, ◌≤◌, List, [], ◌∷◌, length, Option, Result, Ok, Err, option_and_then}
+use Rattle.hm_edge.specs.Faults.{count_after}
 use Rattle.hm_edge.specs.Sinks.{bytes_after}
 use Rattle.hm_orders.specs.declared.order.Order.{Order}
 use Rattle.hm_orders.specs.declared.read.TextRefused.{TextRefused}
 use Rattle.hm_orders.specs.Rows.{orders_held}
-use Rattle.hm_orders.specs.ReportText.{report_text}
-use Rattle.hm_book.specs.declared.limits.Limits.{Limits}
+use Rattle.hm_orders.specs.ReportText.{report_lines, report_text}
+pub use Rattle.hm_book.specs.Limits.{no_limits}
 use Rattle.hm_book.specs.Run.{BookState, empty_state, next_effect, report_of, state_after}
 use Rattle.hm_cellbook.specs.Cost.{cost}
 use Rattle.hm_replay.specs.Words.{file_named}
@@ -13,10 +14,6 @@ use Rattle.hm_replay.specs.Words.{file_named}
 -- how many bytes a file may have: 64 MiB
 abbrev pub most_bytes : ℕ
 most_bytes = 67108864
-
--- limits that admit every order that a row can give
-abbrev pub no_limits : Limits
-no_limits = record { max_quantity = 4294967295; low = 1; high = 4294967295 }
 
 -- the bytes of the file that the words name, where they name one and the shelf tells its bytes
 abbrev pub bytes_told : (List ℕ → Option (List ℕ)) → List (List ℕ) → Option (List ℕ)
@@ -56,6 +53,12 @@ pub record Reports (bytes : List ℕ) (old new : Option (List ℕ)) : Type 0 whe
   pub orders : List Order
   pub held : IsHeld orders bytes
   pub written : new ≡ bytes_after (text_of orders) old
+
+-- each line of that report was one put, in a sink that counts its puts
+pub record PutsReport (bytes : List ℕ) (puts puts_after : ℕ) : Type 0 where
+  pub orders : List Order
+  pub held : IsHeld orders bytes
+  pub counted : puts_after ≡ count_after (length (report_lines (report_of no_limits 1 orders))) puts
 
 -- how many versions the heap of a replay has left when it is made: two of its 1048576 are taken
 abbrev pub first_room : ℕ

@@ -32,6 +32,7 @@ pub(crate) fn load<S: Shelf>(
     ensures cause { IfErr result (λ refused.
         IfSome (bytes_told (S.told shelf.old) (texts words.now)) (IsOfBytes refused)) }
     ensures read { result ≡ Err Refused.Read → Rose (S.faults shelf.old) (S.faults shelf.new) }
+    ensures unread { result ≢ Err Refused.Read → S.faults shelf.new ≡ S.faults shelf.old }
     ensures write { IfErr result (λ refused. refused ≢ Refused.Write) }
 
     ensures faults { S.faults shelf.old ≤ S.faults shelf.new }

@@ -1,10 +1,10 @@
 //! The program's work from its words to its status.
 ghost use Rattle.std.specs.Prelude.{◌≡◌, ◌≢◌, ◌==◌, if◌then◌else◌, ◌⊎◌, ℕ, ◌<◌, ◌≤◌, ◌↔◌, List, [], ◌∷◌, All, Contains, length, None, Ok, Err, IfOk, IfErr, IfSome, OnOk, OnErr};
-ghost use Rattle.hm_edge.specs.Faults.{Rose};
+ghost use Rattle.hm_edge.specs.Faults.{Rose, next_count};
 ghost use Rattle.hm_orders.specs.Rows.{orders_held};
 ghost use Rattle.hm_orders.specs.ReportText.{AddsFront};
 ghost use Rattle.hm_replay.specs.Words.{file_named, texts};
-ghost use Rattle.hm_replay.specs.Replay.{HasRefusedRow, IsReadable, PassesRoom, Reports, bytes_told, most_bytes, text_read};
+ghost use Rattle.hm_replay.specs.Replay.{HasRefusedRow, IsReadable, PassesRoom, PutsReport, Reports, bytes_told, most_bytes, text_read};
 ghost use Rattle.hm_replay.specs.Refusals.{HasBegun, IsOfBytes, IsTold, SaysWhy, grown_by, names_failed, status_of};
 
 use crate::load::load;
@@ -31,8 +31,14 @@ fn replay_file<S: Shelf, K: Sink>(
     ensures words { (result ≡ Err Refused.Words) ↔ (file_named (texts words.now) ≡ None) }
     ensures read { result ≡ Err Refused.Read → Rose (S.faults shelf.old) (S.faults shelf.new) }
     ensures write { result ≡ Err Refused.Write → Rose (K.faults out.old) (K.faults out.new) }
+    ensures unread { result ≢ Err Refused.Read → S.faults shelf.new ≡ S.faults shelf.old }
+    ensures unwritten { result ≢ Err Refused.Write → K.faults out.new ≡ K.faults out.old }
     ensures untouched { IfErr result (λ refused.
         HasBegun refused ⊎ (K.written out.new ≡ K.written out.old)) }
+    ensures lines { OnOk result (IfSome (bytes_told (S.told shelf.old) (texts words.now))
+        (λ bytes. PutsReport bytes (K.puts out.old) (K.puts out.new))) }
+    ensures silent { IfErr result (λ refused.
+        HasBegun refused ⊎ (K.puts out.new ≡ K.puts out.old)) }
 
     ensures failures { S.failed shelf.new
         ≡ names_failed result (file_named (texts words.now)) (S.failed shelf.old) }
@@ -56,6 +62,7 @@ pub struct Outcome {
 /// refusal is want of memory.
 pub fn tell<E: Sink>(alloc: Global, refused: Refused, err: &mut E) -> Refused
     ensures line { IsTold result (E.written err.old) (E.written err.new) (E.faults err.old) (E.faults err.new) }
+    ensures put { E.puts err.new ≡ next_count (E.puts err.old) }
     ensures same { result ≢ Refused.Memory → result ≡ refused }
     ensures memory { status_of refused ≢ 3 → result ≡ refused }
 {
@@ -89,13 +96,19 @@ pub fn run<S: Shelf, K: Sink, E: Sink>(
         (λ bytes. AddsFront (text_read (orders_held 1 bytes)) (K.written out.old) (K.written out.new)) }
     ensures untouched { result.status ≢ 0 → result.status ≢ 1 → result.status ≢ 5
         → K.written out.new ≡ K.written out.old }
+    ensures lines { result.status ≡ 0 → IfSome (bytes_told (S.told shelf.old) (texts words.now))
+        (λ bytes. PutsReport bytes (K.puts out.old) (K.puts out.new)) }
+    ensures silent { result.status ≢ 0 → result.status ≢ 1 → result.status ≢ 5
+        → K.puts out.new ≡ K.puts out.old }
 
-    // When each other status comes; 1, want of memory, may come at any time.
+    // When each other status comes; 1, want of memory, may come at any time, but hides no fault.
     ensures words { (result.status ≡ 2) ↔ (file_named (texts words.now) ≡ None) }
     ensures text { result.status ≡ 3
         → IfSome (bytes_told (S.told shelf.old) (texts words.now)) HasRefusedRow }
     ensures read { result.status ≡ 4 → Rose (S.faults shelf.old) (S.faults shelf.new) }
+    ensures unread { result.status ≢ 4 → S.faults shelf.new ≡ S.faults shelf.old }
     ensures write { result.status ≡ 5 → Rose (K.faults out.old) (K.faults out.new) }
+    ensures unwritten { result.status ≢ 5 → K.faults out.new ≡ K.faults out.old }
     ensures readable { result.status ≡ 5
         → IfSome (bytes_told (S.told shelf.old) (texts words.now)) IsReadable }
     ensures full { result.status ≡ 6
@@ -108,6 +121,9 @@ pub fn run<S: Shelf, K: Sink, E: Sink>(
         then grown_by (file_named (texts words.now)) (S.failed shelf.old) else S.failed shelf.old) }
     ensures same { (name : List ℕ) → S.told shelf.new name ≡ S.told shelf.old name }
     ensures quiet { result.status ≡ 0 → E.written err.new ≡ E.written err.old }
+    ensures untold { result.status ≡ 0 → err.new ≡ err.old }
+    ensures one_put { E.puts err.new ≡ (if result.status == 0
+        then E.puts err.old else next_count (E.puts err.old)) }
     ensures why { result.status ≢ 0
         → SaysWhy result.status (bytes_told (S.told shelf.old) (texts words.now))
         (E.written err.old) (E.written err.new) (E.faults err.old) (E.faults err.new) }
