@@ -60,7 +60,7 @@ class Program(Case):
         least = int(re.search(r"LEAST_MEMORY = (\d+)", content("scripts", "explain").decode())[1])
         for page in (content("README.md").decode(), content("docs", "hm.1").decode()):
             self.assertIn(" %d MB of address space" % least, page)
-        for megabytes, status in ((least, 0), (least - 10, 1)):
+        for megabytes, status in ((least + 5, 0), (least - 5, 1)):
             limit = megabytes * 1000000
             done = self.hm("replay", path("demo", "first.csv"),
                            preexec_fn=lambda: resource.setrlimit(resource.RLIMIT_AS, (limit, limit)))
