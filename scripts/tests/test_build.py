@@ -1,6 +1,7 @@
 """./hm, demo/run and .ci/run on a machine with a toolchain of our own, with a failing one, and without one."""
 import os
 import shutil
+import sys
 
 from common import Case, content, path
 
@@ -33,10 +34,10 @@ class Build(Case):
         os.chmod(self.made(RT, "bin/rt"), 0o755)
         for name in TOOLS + ("cp", "chmod"):
             os.symlink(shutil.which(name), os.path.join(self.folder, "tools", name))
-        self.linked("python3")
+        self.add_python()
 
-    def linked(self, name):
-        os.symlink(shutil.which(name), os.path.join(self.folder, "bin", name))
+    def add_python(self):
+        os.symlink(os.path.realpath(sys.executable), self.folder + "/bin/python3")
 
     def alone(self, program, *words, **more):
         """A call that finds no tool but these."""
@@ -97,4 +98,4 @@ class Build(Case):
             self.assertEqual(last, "0 passed, 1 failed")
             self.assertIn("not on the path is %s: %s" % (lacking, install), told)
             if lacking == "python3":
-                self.linked("python3")
+                self.add_python()

@@ -56,6 +56,16 @@ class Program(Case):
             resource.setrlimit(resource.RLIMIT_AS, (32 << 20, 32 << 20))
         self.says(self.hm("replay", self.made(LONGEST), preexec_fn=little), 1, err=b"hm: memory\n")
 
+    def test_a_replay_takes_as_much_address_space_as_explain_says(self):
+        least = int(re.search(r"LEAST_MEMORY = (\d+)", content("scripts", "explain").decode())[1])
+        for page in (content("README.md").decode(), content("docs", "hm.1").decode()):
+            self.assertIn(" %d MB of address space" % least, page)
+        for megabytes, status in ((least + 5, 0), (least - 5, 1)):
+            limit = megabytes * 1000000
+            done = self.hm("replay", path("demo", "first.csv"),
+                           preexec_fn=lambda: resource.setrlimit(resource.RLIMIT_AS, (limit, limit)))
+            self.assertEqual((done.returncode, done.stderr), (status, b"hm: memory\n" if status else b""))
+
     def test_a_full_device(self):
         with open("/dev/full", "wb") as full:
             for rows in (1, 100000):

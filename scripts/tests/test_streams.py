@@ -29,10 +29,10 @@ class Streams(Case):
 
     def test_closed_input_or_errors_change_nothing(self):
         for words in CALLS[:4]:
+            plain = self.shell('"scripts/$@"', *words)
             for stream in ("<&-", "2>&-", "2>/dev/full"):
                 with self.subTest(words=words, stream=stream):
-                    plain, done = self.shell('"scripts/$@"', *words), self.shell('"scripts/$@" ' + stream, *words)
-                    self.says(done, 0, out=plain.stdout)
+                    self.says(self.shell('"scripts/$@" ' + stream, *words), 0, out=plain.stdout)
 
     def test_bad_input_ends_with_2_where_it_cannot_be_told(self):
         for stream in ("2>&-", "2>/dev/full", ">&- 2>&-", "<&- >&- 2>&-"):
@@ -58,9 +58,9 @@ class Streams(Case):
         sparse = self.made(3 << 30, "sparse")
         for name, why in ((pipe, "it is no regular file"), ("/dev/zero", "it is no regular file"),
                           (self.folder, "Is a directory"), (sparse, "it has more than ")):
-            for script, *words in (["report_svg", name], ["report_csv", name, self.folder],
-                                   ["report_check", name, ORDERS], ["report_check", REPORT, name],
-                                   ["explain", "hm: text 1 1 price", "replay", name]):
+            calls = [["report_check", name, ORDERS], ["report_check", REPORT, name], ["report_svg", name],
+                     ["report_csv", name, self.folder], ["explain", "hm: text 1 1 price", "replay", name]]
+            for script, *words in calls if name in (pipe, sparse) else calls[:1]:
                 with self.subTest(script=script, words=words):
                     done = self.script(script, *words, timeout=20)
                     self.is_refused(done, script + ": ", " cannot be read: " + why)
