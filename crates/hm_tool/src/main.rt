@@ -1,12 +1,11 @@
-//! The program `hm`: it hands its words, the files and its two streams to the replay, and ends with the status.
+//! The program `hm`: it hands its words, the files and its two streams to `program`, and ends with the status.
 #![tactic(auto)]
 
-mod finish;
+mod program;
 mod words;
 
-use finish::finish;
 use hm_edge::{FileShelf, StreamSink};
-use hm_replay::{Refused, run, tell};
+use program::program;
 use std::process::ExitCode;
 use words::words_behind_name;
 
@@ -14,9 +13,6 @@ fn main(rt: HostRuntime) -> ExitCode {
     let mut shelf = FileShelf::new(&rt);
     let mut out = StreamSink::new(rt.stdout());
     let mut err = StreamSink::new(rt.stderr());
-    let status = match words_behind_name(&rt) {
-        Ok(words) => run(rt.alloc(), words.as_slice(), &mut shelf, &mut out, &mut err).status,
-        Err(_) => tell(rt.alloc(), Refused::Memory, &mut err).status(),
-    };
-    ExitCode::from(finish(rt.alloc(), status, &mut out, &mut err))
+    let words = words_behind_name(&rt);
+    ExitCode::from(program(rt.alloc(), words, &mut shelf, &mut out, &mut err))
 }

@@ -1,0 +1,14 @@
+-- Why the program ends is what the replay told, or that the report could not be written out.
+use Rattle.std.proofs.Common.{ap}
+use Rattle.hm_tool.proofs.Ends.{why-ended}
+use Rattle.hm_tool.proofs.program.program.Goals as goal
+
+pub returns-clause-why : goal.returns-clause-why
+returns-clause-why g c =
+    let replayed = c.replay_words-status.ensures in
+    let ended = c.finish_report-status.ensures in
+    let written = g.E.Sink.written in
+    let faults = g.E.Sink.faults in
+    why-ended _ _ _ _ _ _ _ _ _ _ _ _ c.finish.ensures.written c.finish.ensures.faults _ ended.same ended.write
+    replayed.report (λ e. (ap written (replayed.untold e), ap faults (replayed.untold e))) replayed.why
+    (λ e. (ap written (ended.quiet e), ap faults (ended.quiet e))) ended.told
