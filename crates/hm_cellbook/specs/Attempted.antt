@@ -46,8 +46,8 @@ pub record Applies (c : Sight BookUsage) (at : Snapshot) (order : Order) (book :
   pub fills : slice_index attempt.numbers 9
       ≡ (state_after c.usage.limits (state_at at book) order).fills
 
--- an attempt leaves its lists at places 8, 9 and 10 and the board at place 7; the places of walks, 11 to
--- 16, are unset, and those from 17 on name what they named
+-- an attempt leaves its lists at places 8, 9 and 10 and the board at place 7; the places of walks,
+-- 11 to 16, are unset, and those from 17 on name what they named
 pub record LeavesPlaces (c d : Sight BookUsage) (attempt : Attempt) : Type 0 where
   pub lists : names_of d attempt.refs
       ≡ name_at d.roots 8 ∷ name_at d.roots 9 ∷ name_at d.roots 10 ∷ name_at d.roots 7 ∷ []

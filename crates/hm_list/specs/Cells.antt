@@ -55,8 +55,8 @@ module _ {U : Type 0} where
     abbrev pub LeadsTo : Sight U → Root → List Pair → Type 0
     LeadsTo c r ps = IsList (node c.usage) (present c) (root_of c r) ps
 
-    -- a root place has a list where it leads over cells with the pairs that the store shows, which are
-    -- in order
+    -- a root place has a list where it leads over cells with the pairs that the store shows, which
+    -- are in order
     pub record HasList (c : Sight U) (r : Root) : Type 0 where
       pub leads : LeadsTo c r (pairs_at c r)
       pub order : AreInOrder (pairs_at c r)
