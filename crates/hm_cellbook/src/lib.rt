@@ -2,16 +2,17 @@
 //!
 //! The common object of the store names three sorted lists of cells: the bids, the asks and the resting ids. Its
 //! numbers hold the last order and its root number, and the numbers of resting orders and of fills. [`cell_apply`] takes
-//! what a fetch of the common object answered. It builds the lists that the next order leaves beside the old ones, so
-//! that whoever still names those reads what they held, and stores to no object. The book is changed where its caller
-//! stores the [`Attempt`] into the common object by one conditional store, which fails where the book has changed since
-//! the fetch. [`BookUsage`] is what the callers of the store agree to.
+//! what a fetch of root place 0, the common object, answered. It builds the lists that the next order leaves beside the
+//! old ones, so that whoever still names those reads what they held, and stores to no object. The book is changed where
+//! its caller stores the [`Attempt`] into the common object by one conditional store, which fails where the book has
+//! changed since the fetch. [`BookUsage`] is what the callers of the store agree to.
 //!
 //! | Root places | Name |
 //! |---|---|
+//! | 0 | the common object |
 //! | 4 to 7 | what the common object was fetched to name: bids, asks, resting ids, board |
 //! | 8 to 10 | the bids, asks and resting ids that the attempt works on |
-//! | 11 to 16 | what a walk along a list takes |
+//! | 11 to 16 | what a walk along a list takes, and leaves unset |
 //!
 //! `proofs/Attempts.antt` has what a loop over attempts needs: that the common object was fetched, that an attempt may
 //! be stored, and which book the store then shows.

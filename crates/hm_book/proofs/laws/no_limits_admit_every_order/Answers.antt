@@ -1,5 +1,5 @@
 -- No limits admit every order.
-use Rattle.std.proofs.Common.{◌≡◌, ◌≤◌, true, refl, arith}
+use Rattle.std.proofs.Common.{◌≡◌, true, refl, arith}
 use Rattle.std.proofs.lemmas.Bool.{le-leb}
 use Rattle.hm_orders.specs.declared.order.Order.{Order}
 use Rattle.hm_orders.specs.declared.order.Kind.{Kind}
