@@ -58,7 +58,7 @@ class Program(Case):
 
     def test_a_replay_takes_as_much_address_space_as_explain_says(self):
         least = int(re.search(r"LEAST_MEMORY = (\d+)", content("scripts", "explain").decode())[1])
-        for page in (content("README.md").decode(), content("docs", "hm.1").decode()):
+        for page in (content("docs", "TROUBLES.md").decode(), content("docs", "hm.1").decode()):
             self.assertIn(" %d MB of address space" % least, page)
         for megabytes, status in ((least + 5, 0), (least - 5, 1)):
             limit = megabytes * 1000000
@@ -95,7 +95,7 @@ class Program(Case):
                     self.says(done, 0, out=case.report)
 
     def test_the_example_of_the_readme(self):
-        text = content("README.md").decode().split("## What the report means\n")[1].split("```")
+        text = content("README.md").decode().split("## A report\n")[1].split("```")
         rows = "".join(row + "\n" for row in re.findall("`(L,[^`]+)`", text[0]))
         self.says(self.hm("replay", self.made(rows.encode())), 0, out=text[1][len("text\n"):].encode())
 

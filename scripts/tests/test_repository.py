@@ -56,12 +56,21 @@ class Repository(Case):
                 with self.subTest(document=document, name=name):
                     self.assertTrue(is_pattern or os.path.exists(path(name)))
 
-    def test_each_edit_that_the_readme_names_exists(self):
-        edits = re.findall(r"`(crates/\w+/must-fail/\w+\.edit)`", content("README.md").decode())
-        self.assertGreater(len(edits), 10)
-        for edit in edits:
-            with self.subTest(edit):
-                self.assertTrue(os.path.exists(path(edit)))
+    def test_each_edit_that_a_promise_names_exists(self):
+        there = {name[:-len(".edit")] for crate in os.listdir(path("crates"))
+                 if os.path.isdir(path("crates", crate, "must-fail"))
+                 for name in os.listdir(path("crates", crate, "must-fail"))}
+        rows = [row.strip("|").split("|") for row in content("docs", "PROVED.md").decode().splitlines()
+                if row.startswith("| ")]
+        named = {edit for row in rows for edit in re.findall(r"`([a-z]\w+)`", row[-2]) if edit[:3] != "hm_"}
+        self.assertGreater(len(named), 10)
+        self.assertEqual(named - there, set())
+
+    def test_each_promise_has_at_most_twenty_words(self):
+        for row in content("docs", "PROVED.md").decode().splitlines():
+            if row.startswith("| "):
+                with self.subTest(row):
+                    self.assertLessEqual(len(row.split("|")[1].split()), 20)
 
     def test_each_script_tells_its_use(self):
         for name in SCRIPTS:
