@@ -11,4 +11,4 @@ fresh-requires-clause-used g c =
 
 pub returns-clause-fresh : goal.returns-clause-fresh
 returns-clause-fresh g c =
-    rw (c.fresh.ensures, c.in_ok-diary.ensures) (fresh_caller c.args.usage c.args.start c.args.room c.open.new.self (c.objects-common.result - 1) (ap (λ (k : ℕ). indexed_name k) (omega arith)))
+    rw (c.fresh.ensures, c.in_ok-diary.ensures) (fresh_caller c.args.usage c.args.start _ c.open.new.self (c.objects-common.result - 1) (ap (λ (k : ℕ). indexed_name k) (omega arith)))
