@@ -1,5 +1,5 @@
 -- Lines that are put into a sink one after another.
-use Rattle.std.proofs.Common.{◌≡◌, ◌≢◌, ℕ, zero, suc, ◌+◌, ◌<◌, ◌≤◌, List, [], ◌∷◌, ◌++◌, length, map, get_or, take, drop, Option, Some, None, Result, Ok, Err, OnErr, refl, sym, ap, ◌∙◌, subst, append_assoc, length-append, arith}
+use Rattle.std.proofs.Common.{◌≡◌, ℕ, zero, suc, ◌+◌, ◌<◌, ◌≤◌, List, [], ◌∷◌, ◌++◌, length, map, get_or, take, drop, Option, Some, None, Result, Ok, Err, OnErr, refl, sym, ap, ◌∙◌, append_assoc, length-append, arith}
 use Rattle.std.specs.List.{flat_map}
 use Rattle.std.proofs.lemmas.Grind.{flat_map-append}
 use Rattle.std.proofs.lemmas.List.{append-nil, take_all, take-append-drop, take_more, drop_more}
@@ -8,7 +8,7 @@ use Rattle.hm_edge.specs.Sinks.{bytes_after}
 use Rattle.hm_orders.specs.declared.write.WriteRefused.{WriteRefused}
 use Rattle.hm_orders.specs.declared.write.WriteRefused.TheVariants.{Failed, Memory}
 use Rattle.hm_orders.specs.ReportText.{AddsFront, joined}
-use Rattle.hm_orders.specs.Putting.{FailsAtLast, HasTried, Puts, PutsLines}
+use Rattle.hm_orders.specs.Putting.{HasTried, Puts, PutsLines}
 
 -- no bytes leave what was written as it was
 none-after : (written : Option (List ℕ)) → bytes_after [] written ≡ written

@@ -9,6 +9,11 @@ use Rattle.hm_replay.specs.Replay.{bytes_told}
 abbrev pub Words : Type 0
 Words = Result (Vec (String Global) Global) Memory
 
+-- the file that the words name
+abbrev pub file_of : Words → Option (List ℕ)
+file_of (Ok words) = file_named (texts words.items)
+file_of (Err memory) = None
+
 -- the bytes that a shelf tells of the file that the words name
 abbrev pub bytes_of : (List ℕ → Option (List ℕ)) → Words → Option (List ℕ)
 bytes_of told (Ok words) = bytes_told told (texts words.items)

@@ -5,8 +5,8 @@ ghost use Rattle.hm_edge.specs.Faults.{Rose, next_count};
 ghost use Rattle.hm_orders.specs.Rows.{orders_held};
 ghost use Rattle.hm_orders.specs.ReportText.{AddsFront};
 ghost use Rattle.hm_replay.specs.Replay.{PutsReport, Reports, text_read};
-ghost use Rattle.hm_replay.specs.Refusals.{IsTold, SaysWhy};
-ghost use Rattle.hm_tool.specs.Program.{AreRefused, bytes_of};
+ghost use Rattle.hm_replay.specs.Refusals.{IsTold, SaysWhy, grown_by};
+ghost use Rattle.hm_tool.specs.Program.{AreRefused, bytes_of, file_of};
 
 use hm_edge::{Finish, Memory, Shelf, Sink};
 use hm_replay::{Refused, run, tell};
@@ -38,6 +38,8 @@ pub(crate) fn program<S: Shelf, K: Finish, E: Finish>(
     ensures words { (result ≡ 2) ↔ AreRefused words }
     ensures read { result ≡ 4 → Rose (S.faults shelf.old) (S.faults shelf.new) }
     ensures unread { result ≢ 4 → S.faults shelf.new ≡ S.faults shelf.old }
+    ensures failures { S.failed shelf.new ≡ (if result == 4
+        then grown_by (file_of words) (S.failed shelf.old) else S.failed shelf.old) }
     ensures write { result ≡ 5 → Rose (K.faults out.old) (K.faults out.new) }
     ensures unwritten { result ≡ 0 → K.faults out.new ≡ K.faults out.old }
     ensures quiet { result ≡ 0 → E.written err.new ≡ E.written err.old }
@@ -73,6 +75,8 @@ fn replay_words<S: Shelf, K: Sink, E: Sink>(
     ensures words { (result ≡ 2) ↔ AreRefused words }
     ensures read { result ≡ 4 → Rose (S.faults shelf.old) (S.faults shelf.new) }
     ensures unread { result ≢ 4 → S.faults shelf.new ≡ S.faults shelf.old }
+    ensures failures { S.failed shelf.new ≡ (if result == 4
+        then grown_by (file_of words) (S.failed shelf.old) else S.failed shelf.old) }
     ensures write { result ≡ 5 → Rose (K.faults out.old) (K.faults out.new) }
     ensures unwritten { result ≢ 5 → K.faults out.new ≡ K.faults out.old }
     ensures untold { result ≡ 0 → err.new ≡ err.old }
