@@ -24,7 +24,8 @@ pub record Sight (U : Type 0) : Type 0 where
   -- how many versions may be given to it before its collector acts, and whether a fetch may take one
   pub room : ℕ
   pub copying : Bool
-  -- the counts behind its room: places used of its To region, of how many, and regions free, of which kept back
+  -- the counts behind its room: how many places of its To region are used, and how many it has; how
+  -- many regions are free, and how many of them are kept back
   pub used : ℕ
   pub span : ℕ
   pub free : ℕ
@@ -85,7 +86,8 @@ module _ {U : Type 0} where
     pub number : d.number ≡ c.number
     pub span : d.span ≡ c.span
 
-  -- no call but that of tending changes whether it copies, what it keeps back, and the counts of moves and tends
+  -- no call but that of tending changes whether it copies, how many regions it keeps back, and the
+  -- counts of moves and tends
   pub record IsUntended (c d : Sight U) : Type 0 where
     pub copying : d.copying ≡ c.copying
     pub kept : d.kept ≡ c.kept

@@ -4,8 +4,8 @@ use Rattle.hm_model.specs.declared.worker.Tended.{Tended}
 use Rattle.hm_model.specs.declared.worker.Tended.TheVariants.{Nothing, Advanced, Waits, NoRoom, Spent}
 use Rattle.hm_model.specs.Sight.{Sight, IsSameCaller}
 
--- counts allow so many versions: the places left of the To region, and a region's places for each free region but
--- those that are kept back
+-- counts allow so many versions: the places left of the To region, and all places of each free
+-- region that is not kept back
 abbrev pub allowed_versions : {U : Type 0} → Sight U → ℕ
 allowed_versions c = (c.span - c.used) + c.span * (c.free - c.kept)
 
