@@ -23,12 +23,13 @@ first_number (Some contents) = slice_index contents.numbers 0
 abbrev pub told_in : PlainStore → ℕ
 told_in s = first_number (contents_of s board_name)
 
--- the state of the book that a caller has seen: what the orders that were spelled make of the empty book
+-- the state of the book that a caller has seen: what the orders that were spelled make of the empty
+-- book
 abbrev pub state_seen : Sight BookUsage → BookState
 state_seen c = state_after_all no_limits empty_state (spelled c.seen)
 
--- a caller keeps a book where its heap started with an empty one, it is caller 0 and all that was seen is its
--- own, nothing is copied, and root place 0 names the common object
+-- a caller keeps a book where its heap started with an empty one, it is caller 0 and all that was
+-- seen is its own, nothing is copied, and root place 0 names the common object
 pub record KeepsBook (c : Sight BookUsage) : Type 0 where
   pub start : IsBookStart c.start
   pub limits : c.usage.limits ≡ no_limits
@@ -38,7 +39,8 @@ pub record KeepsBook (c : Sight BookUsage) : Type 0 where
   pub common : name_at c.roots 0 ≡ Some book_name
   pub history : HasHistory book_lawful book_allowed c
 
--- a call leaves the book and the board as they were where it spells no order and the board tells what it told
+-- a call leaves the book and the board as they were where it spells no order and the board tells
+-- what it told
 pub record SameBook (c d : Sight BookUsage) : Type 0 where
   pub usage : d.usage ≡ c.usage
   pub orders : spelled d.seen ≡ spelled c.seen
@@ -55,8 +57,9 @@ pub record HasStamp (s : PlainStore) (stamp : ℕ) : Type 0 where
   pub there : contents_of s book_name ≡ Some contents
   pub is : contents.stamp ≡ stamp
 
--- an attempt may be stored where the common object still has the stamp of the fetch, the places that the
--- attempt names are set, and the usage allows it; root place 7 names the board, which is told then
+-- an attempt may be stored where the common object still has the stamp of the fetch, the places
+-- that the attempt names are set, and the usage allows it; root place 7 names the board, which is
+-- told then
 pub record MayBeStored (c : Sight BookUsage) (stamp : ℕ) (attempt : Attempt) : Type 0 where
   pub unchanged : HasStamp (present c) stamp
   pub set : AreSet c attempt.refs
@@ -64,15 +67,15 @@ pub record MayBeStored (c : Sight BookUsage) (stamp : ℕ) (attempt : Attempt) :
       attempt.refs attempt.numbers
   pub board : name_at c.roots 7 ≡ Some board_name
 
--- an attempt makes of the book what the order makes of it: its numbers hold the order and how many orders
--- rest then, and it tells what becomes of the order
+-- an attempt makes of the book what the order makes of it: its numbers hold the order and how many
+-- orders rest then, and it tells what becomes of the order
 pub record MakesNext (state : BookState) (order : Order) (attempt : Attempt) : Type 0 where
   pub done : attempt.done ≡ done_of no_limits state order
   pub holds : HoldsOrder attempt.numbers order
   pub resting : slice_index attempt.numbers 8 ≡ length (state_after no_limits state order).book
 
--- a book on a heap, as contracts see it: its state, what the board tells, how many rows the file has, and how
--- many versions are left
+-- a book on a heap, as contracts see it: its state, what the board tells, how many rows the file
+-- has, and how many versions are left
 pub record HeapBook : Type 0 where
   pub state : BookState
   pub told : ℕ

@@ -74,12 +74,13 @@ abbrev pub message_of : Refused → List ℕ
 message_of refused = codes "hm: " ++ words_of refused ++ 10 ∷ []
 
 -- what a sink for errors is told of a refusal: its line, and all of it unless that sink failed
-pub record IsTold (refused : Refused) (old new : Option (List ℕ)) (faults faults_after : ℕ) : Type 0 where
+pub record IsTold (refused : Refused) (old new : Option (List ℕ)) (faults faults_after : ℕ)
+    : Type 0 where
   pub front : AddsFront (message_of refused) old new
   pub whole : (new ≡ bytes_after (message_of refused) old) ⊎ Rose faults faults_after
 
--- what a refusal says of the bytes of the file: a row is refused, the report was begun, their orders cost too
--- much, or they are too many
+-- what a refusal says of the bytes of the file: a row is refused, the report was begun, their
+-- orders cost too much, or they are too many
 abbrev pub IsOfBytes : Refused → List ℕ → Type 0
 IsOfBytes Memory bytes = Unit {0}
 IsOfBytes Words bytes = Unit {0}
@@ -99,8 +100,8 @@ HasBegun Write = Unit {0}
 HasBegun Full = ⊥
 HasBegun Long = ⊥
 
--- a replay on a heap with so much room ends without a report where memory ran out, or where what its orders
--- cost is more than the room
+-- a replay on a heap with so much room ends without a report where memory ran out, or where what
+-- its orders cost is more than the room
 abbrev pub EndsRun : ℕ → ℕ → Refused → Type 0
 EndsRun room spent Memory = Unit {0}
 EndsRun room spent Words = ⊥
@@ -111,7 +112,8 @@ EndsRun room spent Full = room < spent
 EndsRun room spent Long = ⊥
 
 -- the sink for errors is told why the program ends with this status
-pub record SaysWhy (status : ℕ) (told old new : Option (List ℕ)) (faults faults_after : ℕ) : Type 0 where
+pub record SaysWhy (status : ℕ) (told old new : Option (List ℕ)) (faults faults_after : ℕ)
+    : Type 0 where
   pub refused : Refused
   pub has_status : status ≡ status_of refused
   pub cause : IfSome told (IsOfBytes refused)
@@ -122,7 +124,10 @@ abbrev pub grown_by : Option (List ℕ) → Option (List (List ℕ)) → Option 
 grown_by None names = names
 grown_by (Some name) names = option_map (λ all. all ++ name ∷ []) names
 
--- the list of names whose reads failed, after a replay: it grows by the file's name where the file could not be read
-abbrev pub names_failed : {X : Type 0} → Result X Refused → Option (List ℕ) → Option (List (List ℕ)) → Option (List (List ℕ))
+-- the list of names whose reads failed, after a replay: it grows by the file's name where the file
+-- could not be read
+abbrev pub names_failed : {X : Type 0} → Result X Refused → Option (List ℕ)
+    → Option (List (List ℕ)) → Option (List (List ℕ))
 names_failed (Ok x) file names = names
-names_failed (Err refused) file names = if status_of refused == 4 then grown_by file names else names
+names_failed (Err refused) file names =
+    if status_of refused == 4 then grown_by file names else names

@@ -60,7 +60,8 @@ impl CellBook {
         requires file { order.now.file ≡ 1 }
         requires rows { self.old.state.applied < self.old.rows }
         ensures done { IfOk result (λ done. done ≡ done_of no_limits self.old.state order.now) }
-        ensures state { OnOk result (self.new.state ≡ state_after no_limits self.old.state order.now) }
+        ensures state { OnOk result
+            (self.new.state ≡ state_after no_limits self.old.state order.now) }
         ensures told { OnOk result (self.new.told ≡ self.new.state.applied) }
         ensures rows { self.new.rows ≡ self.old.rows }
         ensures room { OnOk result

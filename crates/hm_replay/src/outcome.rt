@@ -24,7 +24,8 @@ fn replay_file<S: Shelf, K: Sink>(
     ensures report { OnOk result (IfSome (bytes_told (S.told shelf.old) (texts words.now))
         (λ bytes. Reports bytes (K.written out.old) (K.written out.new))) }
     ensures front { IfSome (bytes_told (S.told shelf.old) (texts words.now))
-        (λ bytes. AddsFront (text_read (orders_held 1 bytes)) (K.written out.old) (K.written out.new)) }
+        (λ bytes. AddsFront (text_read (orders_held 1 bytes))
+        (K.written out.old) (K.written out.new)) }
 
     ensures cause { IfErr result (λ refused.
         IfSome (bytes_told (S.told shelf.old) (texts words.now)) (IsOfBytes refused)) }
@@ -61,7 +62,8 @@ pub struct Outcome {
 /// Tells `err` the line of the refusal, whatever becomes of it there. Where no memory is left for the line, the
 /// refusal is want of memory.
 pub fn tell<E: Sink>(alloc: Global, refused: Refused, err: &mut E) -> Refused
-    ensures line { IsTold result (E.written err.old) (E.written err.new) (E.faults err.old) (E.faults err.new) }
+    ensures line { IsTold result (E.written err.old) (E.written err.new)
+        (E.faults err.old) (E.faults err.new) }
     ensures put { E.puts err.new ≡ next_count (E.puts err.old) }
     ensures same { result ≢ Refused.Memory → result ≡ refused }
     ensures memory { status_of refused ≢ 3 → result ≡ refused }
@@ -93,7 +95,8 @@ pub fn run<S: Shelf, K: Sink, E: Sink>(
     ensures report { result.status ≡ 0 → IfSome (bytes_told (S.told shelf.old) (texts words.now))
         (λ bytes. Reports bytes (K.written out.old) (K.written out.new)) }
     ensures front { IfSome (bytes_told (S.told shelf.old) (texts words.now))
-        (λ bytes. AddsFront (text_read (orders_held 1 bytes)) (K.written out.old) (K.written out.new)) }
+        (λ bytes. AddsFront (text_read (orders_held 1 bytes))
+        (K.written out.old) (K.written out.new)) }
     ensures untouched { result.status ≢ 0 → result.status ≢ 1 → result.status ≢ 5
         → K.written out.new ≡ K.written out.old }
     ensures lines { result.status ≡ 0 → IfSome (bytes_told (S.told shelf.old) (texts words.now))
@@ -114,7 +117,8 @@ pub fn run<S: Shelf, K: Sink, E: Sink>(
     ensures full { result.status ≡ 6
         → IfSome (bytes_told (S.told shelf.old) (texts words.now)) PassesRoom }
     ensures long { result.status ≡ 7
-        → IfSome (bytes_told (S.told shelf.old) (texts words.now)) (λ bytes. most_bytes < length bytes) }
+        → IfSome (bytes_told (S.told shelf.old) (texts words.now))
+        (λ bytes. most_bytes < length bytes) }
 
     // What the shelf and the sink for errors are left with.
     ensures failures { S.failed shelf.new ≡ (if result.status == 4
