@@ -29,7 +29,8 @@ pub(crate) fn program<S: Shelf, K: Finish, E: Finish>(
     ensures lines { result ≡ 0 → IfSome (bytes_of (S.told shelf.old) words)
         (λ bytes. PutsReport bytes (K.puts out.old) (K.puts out.new)) }
     ensures front { IfSome (bytes_of (S.told shelf.old) words)
-        (λ bytes. AddsFront (text_read (orders_held 1 bytes)) (K.written out.old) (K.written out.new)) }
+        (λ bytes. AddsFront (text_read (orders_held 1 bytes))
+        (K.written out.old) (K.written out.new)) }
     ensures untouched { result ≢ 0 → result ≢ 1 → result ≢ 5
         → K.written out.new ≡ K.written out.old }
     ensures written_out { K.held out.new ≡ [] }
@@ -69,7 +70,8 @@ fn replay_words<S: Shelf, K: Sink, E: Sink>(
     ensures lines { result ≡ 0 → IfSome (bytes_of (S.told shelf.old) words)
         (λ bytes. PutsReport bytes (K.puts out.old) (K.puts out.new)) }
     ensures front { IfSome (bytes_of (S.told shelf.old) words)
-        (λ bytes. AddsFront (text_read (orders_held 1 bytes)) (K.written out.old) (K.written out.new)) }
+        (λ bytes. AddsFront (text_read (orders_held 1 bytes))
+        (K.written out.old) (K.written out.new)) }
     ensures untouched { result ≢ 0 → result ≢ 1 → result ≢ 5
         → K.written out.new ≡ K.written out.old }
     ensures words { (result ≡ 2) ↔ AreRefused words }
