@@ -5,6 +5,8 @@ pub mod Sure
 pub mod Learning
 -- each call is one step of the machine that the Table depicts
 pub mod Refines
+pub mod Ending
+pub mod Reach
 -- held versions, root places and what is seen of them
 pub mod Found
 pub mod Few
@@ -26,3 +28,5 @@ pub mod Creating
 pub mod Opening
 pub mod Fresh
 pub mod Dealt
+-- closing
+pub mod TakenIn

@@ -1,5 +1,5 @@
 -- A call is one step of the machine.
-use Rattle.std.proofs.Common.{◌≡◌, ◌+◌, ◌≢◌, ℕ, zero, suc, ◌<◌, List, [], ◌∷◌, ◌++◌, append-nil, map, slice_index, slice_set, Option, if◌then◌else◌, refl, sym, ap, ◌∙◌, subst, ⊎_elim}
+use Rattle.std.proofs.Common.{◌≡◌, ◌+◌, ◌≢◌, ℕ, zero, suc, ◌<◌, Bool, true, false, nat_lt, List, [], ◌∷◌, ◌++◌, length, append-nil, map, slice_index, slice_set, Option, if◌then◌else◌, refl, sym, ap, ◌∙◌, subst, ⊎_elim}
 use Rattle.hm_cells.proofs.Words.{◌==◌, map-set, map-append, set-get_or, some, some-injective, get_elem?, State, Allows, Splits, Joins, keeps, stepped, Valid, carried_after, Entry, PlainStore, UsageLaws, Known, Site, Part, View, Move, word_of, becomes, entry_of, listed, finds, view, view_after, view_letting, letting, Enabled, Begins, Core, Good, Carries, applied}
 use Rattle.hm_cells.proofs.Words.{split, joined, joined_view, longer, spent_view, Depicts, released, begins_more, left_begins, at_set, set_else, set_here, good_step, enabled_lawful, Knowledge, Shows, Learnt, Learns, Looked, LookTells, IsReady, Loads, Stores, Exchanges, knowledge, looking, noted, met, spent, noting, first_letting, front, back, Heap}
 use Rattle.atomic_table.specs.Table.{Act}
@@ -8,6 +8,8 @@ use Rattle.hm_moves.proofs.Seats.{good_split, good_join}
 use Rattle.hm_cells.proofs.Learning.{learnt_of}
 use Rattle.hm_cells.proofs.Sure.{sure_letting}
 use Rattle.hm_moves.proofs.Letting.{good_released}
+use Rattle.hm_moves.proofs.Histories.{right_begins}
+use Rattle.hm_cells.specs.Ending.{Heard, gathered, shorter}
 
 same_place : {U : Type 0} (ps : List (Part U)) (n : ℕ) (p q : Part U) → get_elem? ps n ≡ some p
     → get_elem? ps n ≡ some q → p ≡ q
@@ -59,7 +61,7 @@ module _ {U : Type 0} where
 module _ {S U : Type 0} (lawful : U → PlainStore → Type 0) (allowed : U → PlainStore → Entry → Type 0)
     (laws : (u : U) → UsageLaws (lawful u) (allowed u)) (g : Site U) where
   -- the seat of a table's state is one of the machine that it depicts
-  seat_in : (s : State S (Knowledge U)) (shows : Shows lawful allowed g s) (id : ℕ) (k : Knowledge U)
+  pub seat_in : (s : State S (Knowledge U)) (shows : Shows lawful allowed g s) (id : ℕ) (k : Knowledge U)
       → get_elem? s.views id ≡ some k → get_elem? shows.core.views id ≡ some k.view
   seat_in s shows id k at = ap (λ (l : List (View U)). get_elem? l id) shows.depicts.views_are
       ∙ at_map seen_by s.views id k at
@@ -299,14 +301,19 @@ module _ {S U : Type 0} (lawful : U → PlainStore → Type 0) (allowed : U → 
       subst (λ (vs : List (Knowledge U)). Shows lawful allowed g (record s { views = vs ++ noted k ∷ [] }))
       (set_twice s.views id l) cut
 
-  pub unites : (id : ℕ) (k : Knowledge U) (other : ℕ) (l : Knowledge U)
-      → Joins {S = S} (Shows lawful allowed g) id k other l (met k l) spent
-  unites id k other l s shows at apart there =
+  -- a seat takes another in, and keeps in mind a history that begins what both do
+  unites_as : (id : ℕ) (k : Knowledge U) (other : ℕ) (l : Knowledge U) (mind : List Entry)
+      → ((h : List Entry) → Begins k.view.seen h → Begins l.view.seen h → Begins mind h)
+      → Joins {S = S} (Shows lawful allowed g) id k other l
+      (record k { view = joined_view k.view l.view; steps = k.steps + 1; before = mind }) spent
+  unites_as id k other l mind minds s shows at apart there =
+      let both : Knowledge U =
+      record k { view = joined_view k.view l.view; steps = k.steps + 1; before = mind } in
       let c : Core U = shows.core in
       let v : View U = k.view in
       let w : View U = l.view in
       let at_c : get_elem? c.views id ≡ some v = seat_in s shows id k at in
-      let l_there : get_elem? s.views other ≡ some l = sym (set_else s.views id other (met k l) apart)
+      let l_there : get_elem? s.views other ≡ some l = sym (set_else s.views id other both apart)
       ∙ there in
       let there_c : get_elem? c.views other ≡ some w = seat_in s shows other l l_there in
       record {
@@ -317,16 +324,69 @@ module _ {S U : Type 0} (lawful : U → PlainStore → Type 0) (allowed : U → 
           views_are = ap (λ (i : List (View U)). slice_set (slice_set i id (joined_view v w)) other spent_view)
               shows.depicts.views_are
               ∙ (ap (λ (i : List (View U)). slice_set i other spent_view) (sym (map-set seen_by s.views id
-              (met k l)))
-              ∙ sym (map-set seen_by (slice_set s.views id (met k l)) other spent));
+              both))
+              ∙ sym (map-set seen_by (slice_set s.views id both) other spent));
         };
         before = λ j u here. ⊎_elim
             (λ (t : (j ≡ other) × (spent ≡ u)). subst (λ (z : Knowledge U). Begins z.before c.heap.history)
             t.1 (nothing_begins c.heap.history))
-            (λ (t : (j ≢ other) × (get_elem? (slice_set s.views id (met k l)) j ≡ some u)). ⊎_elim
-            (λ (r : (j ≡ id) × (met k l ≡ u)). subst (λ (z : Knowledge U). Begins z.before c.heap.history)
-            r.1 (shows.good.seen id v at_c))
+            (λ (t : (j ≢ other) × (get_elem? (slice_set s.views id both) j ≡ some u)). ⊎_elim
+            (λ (r : (j ≡ id) × (both ≡ u)). subst (λ (z : Knowledge U). Begins z.before c.heap.history)
+            r.1 (minds c.heap.history (shows.good.seen id v at_c) (shows.good.seen other w there_c)))
             (λ (r : (j ≢ id) × (get_elem? s.views j ≡ some u)). shows.before j u r.1)
-            (at_set s.views id j (met k l) u t.1))
-            (at_set (slice_set s.views id (met k l)) other j spent u here);
+            (at_set s.views id j both u t.1))
+            (at_set (slice_set s.views id both) other j spent u here);
       }
+
+  pub unites : (id : ℕ) (k : Knowledge U) (other : ℕ) (l : Knowledge U)
+      → Joins {S = S} (Shows lawful allowed g) id k other l (met k l) spent
+  unites id k other l = unites_as id k other l k.view.seen (λ h own others. own)
+
+  -- at the end the shorter history is kept in mind
+  pub gathers : (id : ℕ) (k : Knowledge U) (other : ℕ) (l : Knowledge U)
+      → Joins {S = S} (Shows lawful allowed g) id k other l (gathered k l) spent
+  gathers id k other l = unites_as id k other l (shorter k.view.seen l.view.seen)
+      (λ h own others. one_begins (nat_lt (length k.view.seen) (length l.view.seen)) h own others)
+    where
+      one_begins : (t : Bool) (h : List Entry) → Begins k.view.seen h → Begins l.view.seen h
+          → Begins (if t then k.view.seen else l.view.seen) h
+      one_begins true h own others = own
+      one_begins false h own others = others
+
+  -- a note is split off a seat that goes on as it was
+  pub copies : (id : ℕ) (k : Knowledge U) → Splits {S = S} (Shows lawful allowed g) id k k (noted k)
+  copies id k = cuts id k k (noted k) (sym (append-nil k.view.parts)) refl refl (λ h b. b)
+      (λ h. nothing_begins h)
+
+  -- a load at which a seat hears that what it keeps in mind begins what it has seen
+  pub hears : (slots id : ℕ) (k : Knowledge U) (held : List (ℕ × S)) (i : ℕ)
+      → Allows {S = S} (Shows lawful allowed g) slots id (k, held) i (λ n. n)
+      (λ _ w. Heard k w.0 × (w.1 ≡ held))
+  hears slots id k held i s shows homes at small =
+      let c : Core U = shows.core in
+      let l : Knowledge U = record k { steps = k.steps + 1; before = [] } in (
+        l,
+        keeps,
+        tt,
+        record {
+          core = c;
+          good = shows.good;
+          depicts = record {
+            words_are = shows.depicts.words_are ∙ sym (set_same s.words i);
+            views_are = shows.depicts.views_are
+                ∙ (sym (set_there (map seen_by s.views) id k.view (at_map seen_by s.views id k at))
+                ∙ sym (map-set seen_by s.views id l));
+          };
+          before = subst (λ (h : List Entry). (j : ℕ) (u : Knowledge U)
+              → get_elem? (slice_set s.views id l) j ≡ some u → Begins u.before h)
+              (append-nil c.heap.history) (before_now s c.heap.history [] id l refl shows.before);
+        },
+        (
+          record {
+            is = refl;
+            begins = right_begins k.view.seen k.before c.heap.history
+                (shows.good.seen id k.view (seat_in s shows id k at)) (shows.before id k at);
+          },
+          refl,
+        ),
+      )

@@ -106,8 +106,10 @@ module _ {U : Type 0} where
     before = [];
   }
 
-  -- the cells' words are those of their shape, and the Table has nothing else
-  pub record IsLaid (table : TableId) (g : Site U) (shape : Shape) : Type 0 where
+  -- the cells' words are those of their shape, and the Table has nothing else; what outlives it is
+  -- what all its seats agree on
+  pub record IsLaid (table : TableId) (g agreed : Site U) (shape : Shape) : Type 0 where
+    pub agreed_is : agreed ≡ g
     pub shape_is : g.shape ≡ shape
     pub words : table.words ≡ word_count shape
     pub slots : table.slots ≡ 0

@@ -29,11 +29,15 @@
 //! No running call has a history, a name, a rank or a list of held versions: contracts alone see them, in the
 //! views of seats. Nothing but [`Cells::make`] takes memory.
 //!
+//! [`Cells::close`] takes all passes, joins their seats and closes the Table. What is left, [`Closed`], has the whole
+//! history, each caller's counts, and the fact that the rule held to the end (`specs/Closing.antt`).
+//!
 //! A caller *holds* versions, which it may look into. Those that a call finds or publishes are *in hand*
 //! until they are released. Each call lets go of the first held version that neither a root place nor the
 //! hand names.
 #![tactic(auto)]
 
+mod closing;
 mod grip;
 mod knowledge;
 mod making;
@@ -45,6 +49,7 @@ mod table;
 mod tests;
 mod want;
 
+pub use closing::{Closed, Counts};
 pub use making::Memory;
 pub use notes::{Note, meet, split};
 pub use pass::Pass;

@@ -8,7 +8,7 @@ use crate::want::Want;
 use atomic_table::{Join, Play, Seat, Split, Table, TableRule};
 use hm_model::Usage;
 use hm_moves::Move;
-use hm_shape::{LINK, Shape, Version};
+use hm_shape::{LINK, STAGE_AT, Shape, Version};
 use std::alloc::{AllocError, Global};
 use std::marker::{Brand, Model, PhantomData};
 
@@ -88,6 +88,17 @@ impl<J: Moving, U> Split<Knowledge<U>> for NoteOut<J> {
     ghost right = { noted };
 }
 
+/// A note with a copy of what was seen gets a seat of its own, and the seat goes on as it was.
+pub(crate) struct CopyOut;
+
+impl<U> Split<Knowledge<U>> for CopyOut {
+    ghost use Rattle.hm_cells.specs.Shows.{noted};
+
+    ghost left = { λ k. k };
+
+    ghost right = { noted };
+}
+
 /// A seat takes another in, and has then seen the longer of two histories.
 pub(crate) struct Meeting;
 
@@ -99,12 +110,48 @@ impl<U> Join<Knowledge<U>> for Meeting {
     ghost spent = { spent };
 }
 
+/// A seat takes another in, and keeps the shorter of two histories in mind.
+pub(crate) struct Gathering;
+
+impl<U> Join<Knowledge<U>> for Gathering {
+    ghost use Rattle.hm_cells.specs.Ending.{gathered};
+    ghost use Rattle.hm_cells.specs.Shows.{spent};
+
+    ghost both = { gathered };
+
+    ghost spent = { spent };
+}
+
+/// A step that moves no word: a seat hears that what it keeps in mind begins what it has seen.
+pub(crate) struct Hearing;
+
+impl<U> Play<(), Knowledge<U>> for Hearing {
+    ghost use Rattle.std.specs.Prelude.{◌≡◌};
+    ghost use Rattle.hm_cells.specs.Ending.{Heard};
+
+    ghost then = { λ _ m _ w. Heard m.0 w.0 × (w.1 ≡ m.1) };
+}
+
+/// What a Table was told, where nothing is asked of its word.
+pub(crate) struct Told;
+
+impl<U> TableRule<(), (), Opening<U>> for Told {
+    ghost holds = { λ _ _. Unit {0} };
+
+    ghost first = { λ _. tt };
+}
+
+/// A Table of one word, which no call looks at. What it was told outlives the words of a heap: contracts see by it what
+/// all callers of a closed heap agreed on.
+pub(crate) type Agreement<U> = Table<(), (), Opening<U>, Told, Global>;
+
 /// The words of a heap.
 ///
 /// Contracts see of them which Table they are, and what all seats agree on.
 #[derive(Drop)]
 pub struct Cells<U: Usage> {
     table: Table<(), Knowledge<U>, Opening<U>, ByTheMachine, Global>,
+    agreement: Agreement<U>,
     shape: Shape,
 }
 
@@ -122,7 +169,8 @@ impl<U: Usage> Model for Cells<U> {
     } };
 
     ghost invariant = { λ c.
-        IsLaid c.table.shared.table_id (site_of c.table.shared.key) c.shape };
+        IsLaid c.table.shared.table_id (site_of c.table.shared.key)
+        (site_of c.agreement.shared.key) c.shape };
 }
 
 impl<U: Usage> Cells<U> {
@@ -138,6 +186,7 @@ impl<U: Usage> Cells<U> {
     ghost use Rattle.hm_cells.specs.Shows.{IsReady, Loads, Stores, Exchanges, Learns, LookTells, knowledge, noted, noting, met};
     ghost use Rattle.hm_moves.specs.FirstWords.{AreFirst, first_words};
     ghost use Rattle.hm_cells.specs.Making.{first_view, front, back};
+    ghost use Rattle.hm_cells.specs.Ending.{CarriesAll, EndsWith, Gathers};
 
     /// A fresh Table over the words of a fresh heap. Its one seat carries all callers.
     pub(crate) fn open(
@@ -155,9 +204,11 @@ impl<U: Usage> Cells<U> {
             r.1.me ≡ (knowledge (first_view (site_of opening.now)), [])) }
     {
         let (table, seat) = Table::of_words(alloc, words, opening)?;
+        let (agreement, _seat) = Table::of_words(alloc, &[0], opening)?;
         Ok((
             Cells {
                 table,
+                agreement,
                 shape: opening.shape,
             },
             seat,
@@ -290,6 +341,47 @@ impl<U: Usage> Cells<U> {
         ensures new { result.me ≡ (noted seat.old.me.0, []) }
     {
         self.table.shared.split_seat::<NoteOut<J>>(seat)
+    }
+
+    /// A seat takes another in, and has then seen all that either had.
+    pub(crate) fn gather(&self, seat: &mut Seat<(), Knowledge<U>>, other: Seat<(), Knowledge<U>>)
+        requires own { seat.old.table_id ≡ self.now.table }
+        requires other { other.table_id ≡ self.now.table }
+        requires none { other.me.1 ≡ [] }
+        ensures own { seat.new.table_id ≡ seat.old.table_id }
+        ensures slots { seat.new.me.1 ≡ seat.old.me.1 }
+        ensures gathers { Gathers seat.old.me.0 other.me.0 seat.new.me.0 }
+    {
+        let table = &self.table;
+        table.shared.join_seat::<Gathering>(seat, other);
+        // After the joining. The load decides nothing: by it contracts know that both histories begin the longer one.
+        table.shared.load::<Hearing>(seat, 0);
+    }
+
+    /// Closes the Table, with a seat that carries every caller. The note that is left has seen the whole history;
+    /// beside it come what all callers agreed on, and the stage's word at the end.
+    pub(crate) fn finish(
+        self,
+        mut seat: Seat<(), Knowledge<U>>,
+    ) -> (Seat<(), Knowledge<U>>, Agreement<U>, u64)
+        requires own { seat.table_id ≡ self.table }
+        requires all { CarriesAll self.site.shape.callers seat.me.0.view.parts }
+        ensures note { result.0.me ≡ (noted seat.me.0, []) }
+        ensures agreed { site_of result.1.shared.key ≡ self.site }
+        ensures ends { EndsWith U.lawful U.allowed self.site seat.me.0.view result.2 }
+    {
+        let Cells {
+            table,
+            agreement,
+            shape: _,
+        } = self;
+        // The note goes out first, since the Table is closed with the seat that carries the callers: only of that seat
+        // is it known at the end what it has seen.
+        let note = table.shared.split_seat::<CopyOut>(&mut seat);
+        let closed = table.close_with(seat);
+        let stage = closed.word(STAGE_AT as usize);
+        closed.free();
+        (note, agreement, stage)
     }
 
     /// A seat takes another in.
