@@ -1,10 +1,11 @@
 //! Cells with two passes, on one thread.
-ghost use Rattle.std.specs.Prelude.{◌≡◌};
+ghost use Rattle.std.specs.Prelude.{◌≡◌, IfOk};
 ghost use Rattle.hm_cells.specs.Facts.{Fits, IsAtRest};
 
-use crate::{Cells, Pass, load_field, meet, publish, split, store_own};
+use crate::{Cells, Closed, Counts, Pass, load_field, meet, publish, split, store_own};
 use hm_model::{AnyUsage, Root, Start};
-use hm_shape::{Shape, Version};
+use hm_shape::{Phase, Shape, Stage, Version};
+use std::alloc::{AllocError, Global};
 use std::process::Abort;
 
 // A heap of two callers, whose common object names one side object, at place 1.
@@ -36,6 +37,53 @@ fn creates(rt: &impl Abort, cells: &Cells<AnyUsage>, pass: &mut Pass<AnyUsage>) 
         store_own(cells, pass, i, 0);
     }
     publish(cells, pass)
+}
+
+// Both passes of a heap of two callers, which is closed with them.
+fn closes(
+    rt: &impl Abort,
+    alloc: Global,
+    cells: Cells<AnyUsage>,
+    one: Pass<AnyUsage>,
+    other: Pass<AnyUsage>,
+) -> Result<Closed<AnyUsage>, AllocError>
+    requires one { Fits one cells }
+    requires other { Fits other cells }
+    ensures { IfOk result (λ closed. closed.site.shape.callers ≡ 2) }
+{
+    assert!(rt; cells.shape().callers == 2);
+    assert!(rt; one.number() == 0);
+    assert!(rt; other.number() == 1);
+    let passes = vec![in alloc; one, other]?;
+    Ok(cells.close(passes))
+}
+
+#[test]
+fn closed_cells_tell_what_each_caller_used(rt: HostRuntime) {
+    let shape = Shape::new(2, 4, 4).expect(&rt, "a shape");
+    let start = start();
+    assert!(rt; start.objects() <= shape.versions);
+    let (cells, mut passes) = Cells::make(rt.alloc(), shape, AnyUsage, start).expect(&rt, "memory");
+    let mut other = passes.pop().expect(&rt, "pass 1");
+    let mut one = passes.pop().expect(&rt, "pass 0");
+    assert_eq!(rt; creates(&rt, &cells, &mut other), Version(16));
+    assert_eq!(rt; loads(&rt, &cells, &mut one), 5);
+    let closed = closes(&rt, rt.alloc(), cells, one, other).expect(&rt, "memory");
+    for (caller, used) in [(0, 2), (1, 1)] {
+        let counts = Counts {
+            used,
+            free: 0,
+            joined: false,
+        };
+        assert!(rt; caller < 2);
+        assert_eq!(rt; closed.counts(caller), counts);
+    }
+    let idle = Stage {
+        number: 0,
+        done: 0,
+        phase: Phase::Idle,
+    };
+    assert_eq!(rt; closed.stage(), idle);
 }
 
 #[test]
