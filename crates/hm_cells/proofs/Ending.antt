@@ -1,6 +1,6 @@
 -- What a closed Table leaves: the rule held to the end, and the last seat has seen the whole history.
-use Rattle.std.proofs.Common.{◌≡◌, ◌<◌, ℕ, Bool, true, false, List, [], ◌∷◌, length, slice_index, nat_lt, if◌then◌else◌, refl, sym, ap, ◌∙◌, subst, arith, append-nil}
-use Rattle.hm_cells.proofs.Words.{nat_tests, some, some-injective, some-ne-none, get_elem?, State, Entry, PlainStore, UsageLaws, Site, Part, View, Begins, Core, longer, Knowledge, Shows, joined_view}
+use Rattle.std.proofs.Common.{◌≡◌, ℕ, Bool, true, false, List, [], ◌∷◌, length, slice_index, nat_lt, if◌then◌else◌, refl, sym, ap, ◌∙◌, subst, arith}
+use Rattle.hm_cells.proofs.Words.{nat_tests, some, some-injective, some-ne-none, get_elem?, State, Entry, PlainStore, UsageLaws, Site, View, Begins, Core, longer, Knowledge, Shows, joined_view}
 use Rattle.atomic_table.specs.Table.{Final, Seen}
 use Rattle.hm_moves.proofs.Seats.{whole}
 use Rattle.hm_moves.proofs.Histories.{begins_self}

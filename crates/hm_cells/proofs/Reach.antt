@@ -1,5 +1,5 @@
 -- In a good machine no version in reach is given out again, and each is given out once.
-use Rattle.std.proofs.Common.{◌≡◌, ◌≢◌, ◌⊎◌, ◌+◌, ◌*◌, ◌<◌, ◌≤◌, ℕ, zero, suc, true, false, slice_index, Option, Some, None, Contains, inl, inr, refl, sym, ap, ◌∙◌, subst, arith}
+use Rattle.std.proofs.Common.{◌≡◌, ◌≢◌, ◌⊎◌, ◌+◌, ◌*◌, ◌<◌, ◌≤◌, ℕ, zero, suc, true, slice_index, Option, Some, None, inl, inr, refl, sym, ap, ◌∙◌, subst, arith}
 use Rattle.hm_cells.proofs.Words.{dite, nat_tests, common_steps, Version, word_at, naming_word, Entry, PlainStore, store_of, Name, Known, Site, Part, View, IsPublished, reference_at, is_naming, next_version, HasRoom, Core, Good, Carries}
 use Rattle.hm_moves.specs.Chain.{Index, IsLinked, Refers}
 use Rattle.hm_moves.specs.Places.{row_count}

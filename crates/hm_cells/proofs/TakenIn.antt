@@ -1,6 +1,6 @@
 -- Passes that are taken in one after another, and what closed cells keep of them.
 use Rattle.std.proofs.Common.{◌≡◌, ◌≢◌, ◌⊎◌, ◌+◌, ◌<◌, ◌≤◌, ℕ, zero, suc, List, [], ◌∷◌, ◌++◌, length, get_or, set, Some, None, All, drop, refl, sym, ap, ◌∙◌, subst, arith, ⊎_elim, inl, inr, length-append, length-set}
-use Rattle.hm_cells.proofs.Words.{slice_get, some, get_elem?, ℕ_discrete, dite, Seat, Entry, PlainStore, Site, Part, View, Begins, Core, Good, Carries, joined_view, at_later, at_longer, Knowledge, Facts, Made}
+use Rattle.hm_cells.proofs.Words.{slice_get, some, get_elem?, ℕ_discrete, dite, Seat, Entry, PlainStore, Site, Part, View, Begins, Good, Carries, at_later, at_longer, Knowledge, Facts, Made}
 use Rattle.hm_moves.proofs.Histories.{begins_on}
 use Rattle.hm_moves.proofs.Safe.{safe_good}
 use Rattle.hm_shape.specs.Words.{stage_word}

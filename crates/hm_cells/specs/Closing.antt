@@ -10,7 +10,6 @@ use Rattle.hm_model.specs.Store.{PlainStore}
 use Rattle.hm_model.specs.History.{calls_of}
 use Rattle.hm_model.specs.Lawful.{IsLawful}
 use Rattle.hm_moves.specs.declared.part.Site.{Site}
-use Rattle.hm_moves.specs.declared.part.Part.{Part}
 use Rattle.hm_moves.specs.declared.part.View.{View}
 use Rattle.hm_moves.specs.Good.{AreBelow, Begins, Carries, Core, Good}
 use Rattle.hm_moves.specs.Safe.{IsSafe}

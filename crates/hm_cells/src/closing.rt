@@ -107,6 +107,7 @@ impl<U: Usage> Pass<U> {
         }
     }
 
+    // Its seat, which carries its caller first. The grip's memory is freed.
     fn into_seat(self) -> Seat<(), Knowledge<U>>
         ensures cells { result.table_id ≡ self.cells }
         ensures carries { get_elem? result.me.0.view.parts 0 ≡ some self.part }
@@ -130,7 +131,7 @@ impl<U: Usage> Cells<U> {
     ghost use Rattle.hm_cells.specs.Closing.{AreAll, CarriesPass, EndsIn, HeldToTheEnd, IsWholeHistory};
 
     /// Closes the cells, with all their passes in order of number. The seats of all other passes are joined to that of
-    /// pass 0, each by one step, and then the Table is closed. It takes no memory.
+    /// pass 0, each by the joining and a load, and then the Table is closed. It takes no memory.
     pub fn close(self, mut all: Vec<Pass<U>>) -> Closed<U>
         requires all { AreAll self all.items }
         ensures site { result.site ≡ self.site }

@@ -1,5 +1,4 @@
-use Rattle.std.proofs.Common.{false, ◌≡◌, ◌<◌, ℕ, List, length, slice_get, Some, ap, ◌∙◌, sym, arith}
-use Rattle.hm_shape.specs.Ranges.{IsWithin}
+use Rattle.std.proofs.Common.{false, ◌≡◌, ◌<◌, List, length, slice_get, ap, ◌∙◌, sym, arith}
 use Rattle.hm_cells.specs.declared.closing.Counts.{Counts}
 use Rattle.hm_cells.specs.Closing.{Ended}
 use Rattle.hm_cells.proofs.TakenIn.{get_there}

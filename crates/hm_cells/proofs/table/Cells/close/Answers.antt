@@ -1,7 +1,5 @@
-use Rattle.std.proofs.Common.{rules, false, replicate, ◌≡◌, ◌∙◌, ◌++◌, ◌<◌, ℕ, suc, List, [], length, slice_get, Some, sym, ap, refl, arith}
-use Rattle.hm_shape.specs.Words.{stage_word}
+use Rattle.std.proofs.Common.{rules, false, replicate, ◌≡◌, ◌∙◌, ◌<◌, List, length, ap, refl, arith}
 use Rattle.hm_cells.proofs.Words.{Me, site_of, Facts, Knowledge}
-use Rattle.hm_cells.specs.declared.closing.Counts.{Counts}
 use Rattle.hm_cells.specs.Closing.{Ended}
 use Rattle.hm_cells.proofs.TakenIn.{carries_all, first_there, held_now, left_behind, next_fits, next_small, passes_carried, passes_end, took_first, took_next}
 use Rattle.hm_cells.proofs.table.Cells.close.Goals as goal
