@@ -24,9 +24,9 @@ pub(crate) fn measure<R: Threads + Wait + Clock + AllocGlobal + Sync>(
         numbers: [5; 10],
         sides: [None; 4],
     };
-    let (cells, passes) = Cells::make(rt.alloc(), shape, AnyUsage, start)
-        .ok()
-        .context("memory")?;
+    let Ok((cells, passes)) = Cells::make(rt.alloc(), shape, AnyUsage, start) else {
+        return Err(anyhow!("memory"));
+    };
     let mut runners = Vec::new(rt.alloc());
     for pass in passes {
         runners.push(Runner::new(&cells, pass, call))?;
