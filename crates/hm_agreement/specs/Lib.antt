@@ -2,3 +2,4 @@ pub mod Lists
 pub mod Cells
 pub mod Agreed
 pub mod Spelled
+pub mod Told

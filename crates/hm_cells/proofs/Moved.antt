@@ -150,6 +150,7 @@ module _ {U : Type 0} (lawful : U → PlainStore → Type 0) (allowed : U → Pl
 
   tells_new : Tells lawful allowed (entry_of p.number act x) (sight_of s) (sight_of u)
   tells_new = entered lawful allowed (sight_of s) (sight_of u) record {
+    heap = refl;
     usage = refl;
     start = refl;
     number = refl;

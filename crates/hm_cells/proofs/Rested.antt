@@ -220,7 +220,7 @@ module _ {U : Type 0} (lawful : U → PlainStore → Type 0) (allowed : U → Pl
           goes = subst (λ (f : Facts U). Rattle.hm_model.specs.Sight.Goes lawful allowed (sight_of pass)
               (sight_of f) []) (sym is)
               (goes_on lawful allowed (sight_of pass) (sight_of (rested pass both 2))
-              record { usage = refl; start = refl; number = refl; span = refl }
+              record { heap = refl; usage = refl; start = refl; number = refl; span = refl }
               seated.sound.sure.opened record { history = sure_now.history; calls = sure_now.calls }
               (subst (Begins pass.seen) (twice pass.seen other.view.seen) begins) seated.sound.sure.calls refl);
         }

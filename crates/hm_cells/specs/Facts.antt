@@ -3,6 +3,7 @@ use Rattle.std.specs.Prelude.{◌≡◌, ℕ, ◌<◌, ◌≤◌, ◌-◌, ◌==
 use Rattle.std.specs.List.{find, list_any}
 use Rattle.std.specs.Option.{option_map}
 use Rattle.atomic_table.specs.Seated.{TableId}
+use Rattle.hm_shape.specs.declared.shape.Shape.{Shape}
 use Rattle.hm_shape.specs.declared.version.Version.{Version}
 use Rattle.hm_shape.specs.Layout.{version_words}
 use Rattle.hm_shape.specs.Versions.{version_at}
@@ -42,6 +43,12 @@ pub record Facts (U : Type 0) : Type 0 where
   pub steps : ℕ
   pub moves : ℕ
   pub tends : ℕ
+
+-- what tells cells from all others: their shape, and what no other table has
+abbrev pub heap_of : TableId → Shape → List ℕ
+heap_of table s =
+    s.callers ∷ s.regions ∷ s.versions ∷ table.words ∷ table.slots ∷ table.views_name
+    ∷ table.atom ∷ table.block ∷ table.offset ∷ table.slot_names
 
 -- a version is found among known ones by its number
 abbrev pub find_version : List Known → Version → Option Known
@@ -108,6 +115,7 @@ module _ {U : Type 0} where
   -- a pass as the callers' trait sees it
   abbrev pub sight_of : Facts U → Sight U
   sight_of s = record {
+    heap = heap_of s.cells s.part.site.shape;
     usage = s.part.site.usage;
     start = s.part.site.start;
     number = s.part.number;

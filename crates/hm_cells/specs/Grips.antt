@@ -1,5 +1,5 @@
 -- What contracts see of a grip.
-use Rattle.std.specs.Prelude.{ℕ, List, Option}
+use Rattle.std.specs.Prelude.{ℕ, ◌+◌, List, Option}
 use Rattle.hm_shape.specs.declared.version.Version.{Version}
 use Rattle.hm_moves.specs.declared.part.Site.{Site}
 use Rattle.hm_cells.specs.declared.knowledge.Holding.{Holding}
@@ -22,3 +22,7 @@ module _ {U : Type 0} where
   -- the hand has other versions
   abbrev pub handing : Holding U → List Version → Holding U
   handing h hand = record h { hand = hand }
+
+  -- its caller tended once more
+  abbrev pub tended : Holding U → Holding U
+  tended h = record h { tends = h.tends + 1 }

@@ -50,6 +50,16 @@ impl<J: Handing, U> Play<(), Holding<U>> for Hands<J> {
     ghost then = { λ _ m _ w. (w.0 ≡ handing m.0 J.picked) × (w.1 ≡ m.1) };
 }
 
+/// A step at which the caller tends.
+pub(crate) struct Tends;
+
+impl<U> Play<(), Holding<U>> for Tends {
+    ghost use Rattle.std.specs.Prelude.{◌≡◌};
+    ghost use Rattle.hm_cells.specs.Grips.{tended};
+
+    ghost then = { λ _ m _ w. (w.0 ≡ tended m.0) × (w.1 ≡ m.1) };
+}
+
 /// Contracts see of a grip what its seat knows, and its root places.
 #[derive(Drop)]
 pub(crate) struct Grip<U> {
@@ -77,7 +87,7 @@ impl<U> Model for Grip<U> {
 }
 
 impl<U> Grip<U> {
-    ghost use Rattle.std.specs.Prelude.{◌<◌, ◌++◌, List, [], Option, None, replicate, slice_index_or, slice_set, length, IfOk};
+    ghost use Rattle.std.specs.Prelude.{◌<◌, ◌+◌, ◌++◌, List, [], Option, None, replicate, slice_index_or, slice_set, length, IfOk};
     ghost use Rattle.std.specs.Option.{option_to_list};
     ghost use Rattle.hm_shape.specs.declared.version.Version.{Version};
     ghost use Rattle.hm_cells.specs.Facts.{without_first};
@@ -133,6 +143,14 @@ impl<U> Grip<U> {
         ensures { self.new ≡ record self.old { hand = without_first version self.old.hand } }
     {
         self.step::<Brand>(Some(version));
+    }
+
+    /// Counts a tend. The count is never stored.
+    pub fn tend(&mut self)
+        ensures { self.new ≡ record self.old { tends = self.old.tends + 1 } }
+    {
+        let table = &self.table;
+        table.shared.load::<Tends>(&mut self.seat, 0);
     }
 
     fn step<J: Handing>(&mut self, _version: Option<Version>)

@@ -1,5 +1,5 @@
 //! Passes, and the calls on them that take no step.
-ghost use Rattle.std.specs.Prelude.{◌≡◌, ◌<◌, ◌↔◌, Some, None, IsTrue, IsSome, IfSome, Contains, slice_get, slice_index_or};
+ghost use Rattle.std.specs.Prelude.{◌≡◌, ◌+◌, ◌<◌, ◌↔◌, Some, None, IsTrue, IsSome, IfSome, Contains, slice_get, slice_index_or};
 ghost use Rattle.std.specs.Option.{option_map};
 
 use crate::grip::Grip;
@@ -151,6 +151,13 @@ impl<U: Usage> Pass<U> {
         ensures pass { self.new ≡ with_root self.old r (Some v) }
     {
         self.grip.set(r, Some(v));
+    }
+
+    /// Counts one more tend of the caller, which contracts alone see. No word of the cells is looked at.
+    pub fn count_tend(&mut self)
+        ensures { self.new ≡ record self.old { tends = self.old.tends + 1 } }
+    {
+        self.grip.tend();
     }
 
     /// The version is no longer in hand. Where it was taken twice, it is once more.

@@ -21,6 +21,7 @@ module _ {U : Type 0} where
   pub same_caller_then : (c d f : Sight U) → IsSameCaller c d → IsSameCaller d f → IsSameCaller c f
   same_caller_then c d f h k =
       record {
+        heap = k.heap ∙ h.heap;
         usage = k.usage ∙ h.usage;
         start = k.start ∙ h.start;
         number = k.number ∙ h.number;
@@ -53,7 +54,7 @@ module _ {U : Type 0} where
   pub rests_none : (c : Sight U) → Rests c c
   rests_none c =
       record {
-        caller = record { usage = refl; start = refl; number = refl; span = refl };
+        caller = record { heap = refl; usage = refl; start = refl; number = refl; span = refl };
         untended = record { copying = refl; kept = refl; moves = refl; tends = refl };
         seen = refl;
         mine = refl;

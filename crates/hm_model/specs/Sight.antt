@@ -11,7 +11,8 @@ use Rattle.hm_model.specs.Lawful.{AllCome, IsLawful, MayMake}
 
 -- a caller, as contracts see it
 pub record Sight (U : Type 0) : Type 0 where
-  -- what its heap was made with
+  -- its heap: numbers that no other heap of its kind has, and what it was made with
+  pub heap : List ℕ
   pub usage : U
   pub start : Start
   -- which of the heap's callers it is
@@ -83,6 +84,7 @@ module _ {U : Type 0} where
 
   -- every call leaves the same caller of the same heap
   pub record IsSameCaller (c d : Sight U) : Type 0 where
+    pub heap : d.heap ≡ c.heap
     pub usage : d.usage ≡ c.usage
     pub start : d.start ≡ c.start
     pub number : d.number ≡ c.number

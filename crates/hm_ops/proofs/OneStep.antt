@@ -8,7 +8,7 @@ use Rattle.hm_moves.specs.declared.part.Known.{Known}
 use Rattle.hm_moves.specs.declared.moving.Act.{Act}
 use Rattle.hm_moves.specs.After.{count_of, seen_after}
 use Rattle.hm_moves.specs.Acts.{entry_of, listed, publishes}
-use Rattle.hm_cells.specs.Facts.{Facts, Made, Fits, IsSound, room_of, sight_of}
+use Rattle.hm_cells.specs.Facts.{Facts, Made, Fits, IsSound, heap_of, room_of, sight_of}
 use Rattle.hm_cells.specs.Calls.{Takes}
 use Rattle.hm_cells.proofs.Stepped.{held_few}
 use Rattle.hm_ops.specs.Resting.{Keeps, Works}
@@ -118,6 +118,7 @@ module _ {U : Type 0} (lawful : U → PlainStore → Type 0) (allowed : U → Pl
         let mine : t.part.calls.mine ≡ s.part.calls.mine = ap (λ (f : Facts U). f.part.calls.mine) took.is
         ∙ (ap (λ (e : Option Entry). s.part.calls.mine ++ listed e) no_entry ∙ append-nil s.part.calls.mine) in
         λ i. record (sight_of s) {
+          heap = heap_of (took.is i).cells (site_kept i).shape;
           usage = (site_kept i).usage;
           start = (site_kept i).start;
           number = number_kept i;

@@ -2,3 +2,4 @@ pub mod Orders
 pub mod Rows
 pub mod ReportText
 pub mod Putting
+pub mod Interleaving

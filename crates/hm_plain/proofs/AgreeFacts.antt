@@ -54,7 +54,7 @@ module _ {U : Type 0} where
     pub enters_adds : (v w : View U) (o p : Stock) (roots after : List (Option ℕ)) (e : Entry) → caller_of e ≡ 0 → Adds lawful allowed v w e → Enters lawful allowed (sight_of v o roots) (sight_of w p after) e
     enters_adds v w o p roots after e own h =
         enters_alone lawful allowed laws (sight_of v o roots) (sight_of w p after) e
-        record { usage = ap (λ (x : View U). x.usage) h.view; start = ap (λ (x : View U). x.start) h.view; number = refl; span = ap (λ (x : View U). x.versions) h.view }
+        record { heap = refl; usage = ap (λ (x : View U). x.usage) h.view; start = ap (λ (x : View U). x.start) h.view; number = refl; span = ap (λ (x : View U). x.versions) h.view }
         own
         (ap (λ (x : View U). x.seen) h.view)
         (ap (λ (x : View U). x.mine) h.view)

@@ -49,7 +49,7 @@ module _ {U : Type 0} where
   -- other root places alone
   rests_places : (v : View U) (o : Stock) (roots after : List (Option ℕ)) (d : Sight U) → sight_of v o roots ≡ d → Rests d (sight_of v o after)
   rests_places v o roots after d view = subst (λ (x : Sight U). Rests x (sight_of v o after)) view record {
-    caller = record { usage = refl; start = refl; number = refl; span = refl };
+    caller = record { heap = refl; usage = refl; start = refl; number = refl; span = refl };
     untended = record { copying = refl; kept = refl; moves = refl; tends = refl };
     seen = refl;
     mine = refl;

@@ -1,5 +1,5 @@
 -- What contracts see of a plain caller, and how its parts agree.
-use Rattle.std.specs.Prelude.{◌≡◌, ℕ, ◌+◌, Bool, true, false, List, length, Option, Some, None, slice_index_or, slice_set, replicate, count_by}
+use Rattle.std.specs.Prelude.{◌≡◌, ℕ, ◌+◌, Bool, true, false, List, [], length, Option, Some, None, slice_index_or, slice_set, replicate, count_by}
 use Rattle.hm_model.specs.declared.entry.Tried.TheVariants.{Stored, Changed}
 use Rattle.hm_model.specs.declared.entry.Entry.{Entry}
 use Rattle.hm_model.specs.declared.entry.Entry.TheVariants.{Create, Fetch, Store, StoreIf}
@@ -35,6 +35,7 @@ module _ {U : Type 0} where
   -- a plain caller is caller 0 of its heap, and collects nothing
   abbrev pub sight_of : View U → Stock → List (Option ℕ) → Sight U
   sight_of v objects roots = record {
+    heap = [];
     usage = v.usage;
     start = v.start;
     number = 0;

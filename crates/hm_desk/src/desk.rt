@@ -1,0 +1,81 @@
+//! A desk, at which a caller applies its orders to the book on a heap.
+ghost use Rattle.std.specs.Prelude.{◌≡◌, ◌≤◌, length, List};
+ghost use Rattle.hm_model.specs.declared.entry.Entry.{Entry};
+ghost use Rattle.hm_model.specs.Sight.{Goes};
+ghost use Rattle.hm_cellbook.specs.Fetched.{book_allowed, book_lawful};
+ghost use Rattle.hm_desk.specs.Desk.{AdmitAll, AreOwn, KeepsBook};
+ghost use Rattle.hm_desk.specs.Progress.{HasCome};
+ghost use Rattle.hm_desk.specs.Stalling.{IfStalled, WasFull};
+
+use crate::gate::Gate;
+use crate::progress::Progress;
+use hm_book::Limits;
+use hm_cellbook::BookUsage;
+use hm_model::Worker;
+use hm_orders::Order;
+use std::alloc::Global;
+use std::marker::Model;
+
+/// What a call of [`Desk::work`] came to.
+#[derive(Clone, Copy, Debug, PartialEq, Eq)]
+pub enum Worked {
+    /// All orders are applied and told.
+    Finished,
+    /// The caller has no room, and tending freed none: the order with this index is not applied, or the board is not
+    /// told. The counts are the caller's when it last found its room 0.
+    Stalled { at: u64, used: u32, free: u32 },
+    /// There was no memory. The order under way is not applied.
+    Memory,
+}
+
+/// The limits under which callers apply orders.
+#[derive(Clone, Copy, Debug, PartialEq, Eq)]
+pub struct Desk {
+    limits: Limits,
+}
+
+impl Model for Desk {
+    ghost use Rattle.hm_book.specs.declared.limits.Limits.{Limits};
+    ghost use Rattle.hm_desk.specs.Desk.{AdmitAll};
+
+    ghost Value = { Limits };
+
+    ghost view = { λ d. d.limits };
+
+    ghost invariant = { λ d. AdmitAll d.limits };
+}
+
+impl Desk {
+    /// A desk under limits that admit every order that a row can give.
+    pub fn new(limits: Limits) -> Desk
+        requires { AdmitAll limits }
+        ensures { result ≡ limits }
+    {
+        Desk { limits }
+    }
+
+    pub fn work<C: Worker<BookUsage>, G: Gate>(
+        &self,
+        alloc: Global,
+        c: &mut C,
+        orders: &[Order],
+        so_far: &mut Progress,
+        gate: &G,
+    ) -> Worked
+        requires keeps { KeepsBook self.now (C.sight c.old) }
+        requires orders { AreOwn (C.sight c.old) orders.now }
+        requires come { HasCome (C.sight c.old) orders.now so_far.old }
+        ensures keeps { KeepsBook self.now (C.sight c.new) }
+        ensures come { HasCome (C.sight c.new) orders.now so_far.new }
+        ensures further { so_far.old.next ≤ so_far.new.next }
+        ensures goes { (own : List Entry)
+            × Goes book_lawful book_allowed (C.sight c.old) (C.sight c.new) own }
+        ensures finished { result ≡ Worked.Finished
+            → so_far.new.next ≡ length orders.now }
+        ensures told { result ≡ Worked.Finished → so_far.new.told ≡ so_far.new.next }
+        ensures stalled { IfStalled result (λ at used free. (at ≡ so_far.new.next)
+            × WasFull (C.sight c.old) used free) }
+    {
+        loop {}
+    }
+}
