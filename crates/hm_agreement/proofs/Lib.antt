@@ -4,3 +4,4 @@ pub mod OneBook
 pub mod BookStart
 pub mod SpelledRun
 pub mod Parts
+pub mod Board

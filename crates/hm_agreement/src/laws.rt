@@ -1,4 +1,4 @@
-//! The law of the book in a heap: how it comes from the orders that the history spells.
+//! The laws of the book and the board in a heap: how they come from the entries of the history.
 ghost use Rattle.std.specs.Prelude.{◌≡◌, ℕ, ◌+◌, ◌<◌, ◌≤◌, List, All};
 ghost use Rattle.hm_orders.specs.Interleaving.{part_of};
 ghost use Rattle.hm_model.specs.declared.object.Contents.{Contents};
@@ -13,6 +13,7 @@ ghost use Rattle.hm_book.specs.declared.limits.Limits.{Limits};
 ghost use Rattle.hm_book.specs.Run.{empty_state, state_after_all};
 ghost use Rattle.hm_agreement.specs.Agreed.{HasBook, IsLawfulBook, IsAllowedBook};
 ghost use Rattle.hm_agreement.specs.Spelled.{spelled, IsBookStart, HasState};
+ghost use Rattle.hm_agreement.specs.Told.{last_told, told_on};
 
 /// A heap that starts with an empty book starts lawfully. After a lawful history its common object shows one book:
 /// what the orders that the history spells make of the empty book, one after another.
@@ -43,4 +44,13 @@ pub fn each_file_is_what_its_caller_spelled()
         → IsLawful IsLawfulBook (IsAllowedBook limits lengths) start history
         → (n : ℕ) → All (λ e. caller_of e < n) history
         → All (λ order. (0 < order.file) × (order.file ≤ n)) (spelled history) }
+{}
+
+/// After a lawful history from an empty book the board tells, for each of ten callers, what that caller told it last, or
+/// 0 before it told any.
+pub fn the_board_tells_what_each_caller_told_last()
+    ensures { (limits : Limits) (lengths : List ℕ) (start : Start) (history : List Entry)
+        → IsBookStart start
+        → IsLawful IsLawfulBook (IsAllowedBook limits lengths) start history
+        → (q : ℕ) → q < 10 → told_on (store_of history) q ≡ last_told (calls_of q history) }
 {}
