@@ -1,6 +1,8 @@
 -- One caller more has a pass of its own.
 use Rattle.std.proofs.Common.{◌≡◌, ◌<◌, ℕ, zero, suc, List, [], ◌∷◌, ◌++◌, length, get_or, replicate, Option, Some, None, Contains, All, refl, sym, ap, ◌∙◌, arith, append_assoc, get_or-set_same, get_or-set_other}
-use Rattle.hm_cells.proofs.Words.{option_map, length-replicate, All-append, All-cons, All-nil, Version, IsFresh, Known, TableId, opening_of, Site, Part, View, common_known, fresh_part, view, Facts, Fits, IsAtRest, place_name, sight_of, back, first_roots, fresh_pass, fresh_passes, front, newcomer, newcomers}
+use Rattle.hm_cells.proofs.Words.{Entry, PlainStore, IsSizedStart, store_of, option_map, length-replicate, All-append, All-cons, All-nil, Version, IsFresh, Known, TableId, opening_of, Site, Part, View, common_known, fresh_part, view, Facts, Fits, IsAtRest, place_name, sight_of, back, first_roots, fresh_pass, fresh_passes, front, newcomer, newcomers}
+use Rattle.hm_model.specs.Sight.{HasHistory}
+use Rattle.hm_model.proofs.SightFacts.{has_history_fresh}
 use Rattle.hm_cells.proofs.Found.{there_is}
 use Rattle.hm_cells.proofs.Rooted.{name_place}
 
@@ -91,3 +93,14 @@ module _ {U : Type 0} (g : Site U) (z : TableId) where
   all_rest zero = λ i d low. absurd (omega arith)
   all_rest (suc n) = All-append IsAtRest (fresh_passes z g n) (fresh_pass z g n ∷ []) (all_rest n)
       (All-cons IsAtRest (fresh_pass z g n) [] record { hand = refl; few = omega arith } (All-nil IsAtRest))
+
+  -- and have seen a lawful history, where the store that they begin with is lawful
+  pub all_lawful : (lawful : U → PlainStore → Type 0) (allowed : U → PlainStore → Entry → Type 0)
+      → IsSizedStart g.start → lawful g.usage (store_of (opening_of g.start)) → (n : ℕ)
+      → All (λ s. HasHistory lawful allowed (sight_of s)) (fresh_passes z g n)
+  all_lawful lawful allowed sized now zero = λ i d low. absurd (omega arith)
+  all_lawful lawful allowed sized now (suc n) =
+      let P : Facts U → Type 0 = λ s. HasHistory lawful allowed (sight_of s) in
+      All-append P (fresh_passes z g n) (fresh_pass z g n ∷ []) (all_lawful lawful allowed sized now n)
+      (All-cons P (fresh_pass z g n) []
+      (has_history_fresh lawful allowed (sight_of (fresh_pass z g n)) (one_fresh n) sized now) (All-nil P))

@@ -52,7 +52,7 @@ mod want;
 pub use closing::{Closed, Counts};
 pub use making::Memory;
 pub use notes::{Note, meet, split};
-pub use pass::Pass;
+pub use pass::{Pass, a_pass_is_sound};
 pub use steps::{link_store, load_field, load_link, publish, store_own};
 pub use table::Cells;
 pub use want::{Want, WantField};

@@ -26,7 +26,7 @@ impl From<AllocError> for Memory {
 
 impl<U: Usage> Cells<U> {
     ghost use Rattle.std.specs.Prelude.{All};
-    ghost use Rattle.hm_model.specs.Sight.{IsFresh};
+    ghost use Rattle.hm_model.specs.Sight.{HasHistory, IsFresh};
     ghost use Rattle.hm_cells.specs.Facts.{Fits, IsAtRest, sight_of};
     ghost use Rattle.hm_cells.specs.Shows.{knowledge};
     ghost use Rattle.hm_cells.specs.Making.{first_view, fresh_passes};
@@ -48,6 +48,8 @@ impl<U: Usage> Cells<U> {
         ensures fits { IfOk result (λ r. All (λ s. Fits s r.0) r.1.items) }
         ensures fresh { IfOk result (λ r. All (λ s. IsFresh (sight_of s)) r.1.items) }
         ensures rest { IfOk result (λ r. All IsAtRest r.1.items) }
+        ensures histories { IfOk result (λ r.
+            All (λ s. HasHistory U.lawful U.allowed (sight_of s)) r.1.items) }
     {
         let words = first_words(alloc, shape, start)?;
         let opening = Opening {

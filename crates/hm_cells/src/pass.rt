@@ -1,6 +1,7 @@
 //! Passes, and the calls on them that take no step.
 ghost use Rattle.std.specs.Prelude.{◌≡◌, ◌+◌, ◌<◌, ◌↔◌, Some, None, IsTrue, IsSome, IfSome, Contains, slice_get, slice_index_or};
 ghost use Rattle.std.specs.Option.{option_map};
+ghost use Rattle.hm_cells.specs.Facts.{IsSound};
 
 use crate::grip::Grip;
 use crate::knowledge::Knowledge;
@@ -45,7 +46,7 @@ impl<U: Usage> Pass<U> {
     ghost use Rattle.hm_model.specs.Sight.{root_of, SetsRoot, Rests};
     ghost use Rattle.hm_moves.specs.Acts.{next_version};
     ghost use Rattle.hm_moves.specs.Allowed.{HasRoom};
-    ghost use Rattle.hm_cells.specs.Facts.{sight_of, place_name, with_root, with_hand, without_first, IsHeldAt, IsSound};
+    ghost use Rattle.hm_cells.specs.Facts.{sight_of, place_name, with_root, with_hand, without_first, IsHeldAt};
 
     /// The caller's number.
     pub fn number(&self) -> u32
@@ -167,4 +168,11 @@ impl<U: Usage> Pass<U> {
     {
         self.grip.release(v);
     }
+}
+
+/// Every pass is sound.
+pub fn a_pass_is_sound<U: Usage>(pass: &Pass<U>)
+    ensures { IsSound U.lawful U.allowed pass.now }
+{
+    let _ = &pass.grip;
 }

@@ -1,6 +1,7 @@
 use Rattle.std.proofs.Common.{◌≡◌, List, All, sym, subst}
 use Rattle.hm_cells.proofs.Words.{IsFresh, Site, Facts, Fits, IsAtRest, Made, sight_of, fresh_passes}
-use Rattle.hm_cells.proofs.Dealt.{all_fit, all_fresh, all_rest}
+use Rattle.hm_model.specs.Sight.{HasHistory}
+use Rattle.hm_cells.proofs.Dealt.{all_fit, all_fresh, all_lawful, all_rest}
 use Rattle.hm_cells.proofs.table.Cells.make.Goals as goal
 
 pub returns-clause-fits : goal.returns-clause-fits
@@ -29,3 +30,12 @@ returns-clause-rest g c =
     let site : Site g.row.U.Denot = record { usage = a.usage; shape = a.shape; start = a.start } in
     subst (λ (l : List (Facts g.row.U.Denot)). All IsAtRest l) (sym c.in_ok-passes.ensures)
     (all_rest site c.in_ok-cells.cells.table c.args.shape.callers)
+
+pub returns-clause-histories : goal.returns-clause-histories
+returns-clause-histories g c =
+    let a = c.args in
+    let site : Site g.row.U.Denot = record { usage = a.usage; shape = a.shape; start = a.start } in
+    subst (λ (l : List (Facts g.row.U.Denot)). All (λ s. HasHistory g.U.Usage.lawful g.U.Usage.allowed
+    (sight_of s)) l) (sym c.in_ok-passes.ensures)
+    (all_lawful site c.in_ok-cells.cells.table g.U.Usage.lawful g.U.Usage.allowed
+    c.in_ok-words.ensures.first.sized c.requires.lawful c.args.shape.callers)

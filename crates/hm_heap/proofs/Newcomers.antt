@@ -1,0 +1,76 @@
+-- The passes of a fresh heap, one by one.
+use Rattle.std.proofs.Common.{◌≡◌, ◌⊎◌, ◌<◌, ◌≤◌, ◌+◌, ◌-◌, ℕ, zero, suc, Bool, true, false, cond, List, [], ◌∷◌, ◌++◌, length, get_or, Some, All, slice_get, refl, sym, ap, ◌∙◌, subst, arith, inl, inr, ⊎_elim, length-append}
+use Rattle.std.proofs.Math.ListN.{get_or-append}
+use Rattle.std.proofs.Math.Seq.{get_or-append_seam}
+use Rattle.std.proofs.lemmas.Option.{slice_get_within, get_or_from_slice_get}
+use Rattle.atomic_table.specs.Seated.{TableId}
+use Rattle.hm_model.specs.declared.entry.Entry.{Entry}
+use Rattle.hm_model.specs.Store.{PlainStore}
+use Rattle.hm_model.specs.History.{store_of, opening_of, starting_count, IsSizedStart}
+use Rattle.hm_model.specs.Sight.{HasHistory, IsFresh}
+use Rattle.hm_model.proofs.SightFacts.{has_history_fresh}
+use Rattle.hm_moves.specs.declared.part.Site.{Site}
+use Rattle.hm_cells.specs.Closing.{AreAll}
+use Rattle.hm_cells.specs.Facts.{Facts, sight_of}
+use Rattle.hm_cells.specs.Making.{first_used, fresh_pass, fresh_passes}
+use Rattle.hm_cells.proofs.Dealt.{all_fresh}
+
+module _ {U : Type 0} (z : TableId) (g : Site U) where
+  -- there are as many as callers
+  count_fresh : (n : ℕ) → length (fresh_passes z g n) ≡ n
+  count_fresh zero = refl
+  count_fresh (suc n) = length-append (fresh_passes z g n) (fresh_pass z g n ∷ [])
+      ∙ (let h = count_fresh n in omega arith)
+
+  -- in order of number
+  fresh_at : (n k : ℕ) (d : Facts U) → k < n → get_or (fresh_passes z g n) k d ≡ fresh_pass z g k
+  fresh_at zero k d low = absurd (omega arith)
+  fresh_at (suc n) k d low = ⊎_elim
+      (λ (l : k < n). get_or-append (fresh_passes z g n) (fresh_pass z g n ∷ []) d k
+      (let c = count_fresh n in omega arith) ∙ fresh_at n k d l)
+      (λ (e : k ≡ n). subst (λ (i : ℕ). get_or (fresh_passes z g (suc n)) i d ≡ fresh_pass z g k)
+      (count_fresh n ∙ sym e)
+      (get_or-append_seam (fresh_passes z g n) (fresh_pass z g n) [] d ∙ ap (fresh_pass z g) (sym e)))
+      (either k n low)
+    where
+      either : (k n : ℕ) → k < suc n → (k < n) ⊎ (k ≡ n)
+      either k n low = grind arith
+
+  -- what holds of each holds of all
+  all_of : (P : Facts U → Type 0) (n : ℕ) → ((k : ℕ) → k < n → P (fresh_pass z g k))
+      → All P (fresh_passes z g n)
+  all_of P n each = λ k d low.
+      let below : k < n = let c = count_fresh n in omega arith in
+      subst P (sym (fresh_at n k d below)) (each k below)
+
+  fresh_there : (n k : ℕ) (s : Facts U) → slice_get (fresh_passes z g n) k ≡ Some s → s ≡ fresh_pass z g k
+  fresh_there n k s there =
+      let low = slice_get_within (fresh_passes z g n) k s there in
+      sym (get_or_from_slice_get (fresh_passes z g n) k s s there)
+      ∙ fresh_at n k s (let c = count_fresh n in omega arith)
+
+  -- they are all passes of the heap
+  pub all_there : AreAll record { table = z; site = g } (fresh_passes z g g.shape.callers)
+  all_there = record {
+    count = count_fresh g.shape.callers;
+    fits = λ k s there. let e = fresh_there g.shape.callers k s there in
+        record { cells = ap (λ (f : Facts U). f.cells) e; site = ap (λ (f : Facts U). f.part.site) e };
+    numbers = λ k s there. ap (λ (f : Facts U). f.part.number) (fresh_there g.shape.callers k s there);
+  }
+
+  -- caller 0 has used places for the starting objects
+  pub all_used : (n : ℕ)
+      → All (λ s. (sight_of s).used ≡ first_used g.start (sight_of s).number) (fresh_passes z g n)
+  all_used n = all_of (λ s. (sight_of s).used ≡ first_used g.start (sight_of s).number) n (λ k low. refl)
+
+  -- and the others are its room
+  pub all_room : starting_count g.start ≤ g.shape.versions → (n : ℕ)
+      → All (λ s. (sight_of s).room + (sight_of s).used ≡ g.shape.versions) (fresh_passes z g n)
+  all_room few n =
+      all_of (λ s. (sight_of s).room + (sight_of s).used ≡ g.shape.versions) n
+      (λ k low. left (Rattle.std.specs.Prelude.◌==◌ k 0))
+    where
+      left : (t : Bool) → g.shape.versions - cond t (starting_count g.start) 0
+          + cond t (starting_count g.start) 0 ≡ g.shape.versions
+      left true = omega arith
+      left false = omega arith
