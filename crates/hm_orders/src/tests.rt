@@ -1,4 +1,5 @@
 //! What no clause says: rows, refusals and a report as a user meets them, and that calls succeed where memory is ample.
+use crate::merging::merge;
 use crate::order::{Kind, Order, Side};
 use crate::read::{Part, ReadRefused, TextRefused, read_orders};
 use crate::report::{Board, Done, DoneList, Fate, Fill, Fills, Report};
@@ -149,5 +150,25 @@ fn a_report_is_put_line_by_line(rt: HostRuntime) -> Result<(), Fail> {
         assert_eq!(rt; out.bytes.as_slice(), text.as_bytes());
         assert_eq!(rt; out.puts, puts);
     }
+    Ok(())
+}
+
+#[test]
+fn the_orders_of_two_files_are_merged_by_root_numbers(rt: HostRuntime) -> Result<(), Fail> {
+    let mut parts = Vec::new(rt.alloc());
+    for roots in [[1, 4, 5], [2, 3, 6]] {
+        let mut dones = Vec::new(rt.alloc());
+        for root in roots {
+            dones.push(done(rt.alloc(), root, Fate::Rested, &[])?)?;
+        }
+        parts.push(DoneList::new(dones))?;
+    }
+    let all = merge(rt.alloc(), parts)?;
+    let roots: Vec<u64> = all
+        .items()
+        .iter()
+        .map(|done| done.root)
+        .collect(rt.alloc())?;
+    assert_eq!(rt; roots.as_slice(), [1, 2, 3, 4, 5, 6].as_slice());
     Ok(())
 }
