@@ -1,9 +1,4 @@
-pub mod Reports
-pub mod Told
-pub mod Alone
-pub mod State
-pub mod Building
-pub mod Steps
-pub mod Storing
-pub mod Opening
+pub mod Files
+pub mod Whole
 pub mod Applied
+pub mod Telling

@@ -1,4 +1,7 @@
 pub mod Words
-pub mod Replay
+pub mod Loading
+pub mod Reading
 pub mod Refusals
-pub mod Keeping
+pub mod Concluding
+pub mod Working
+pub mod Headline

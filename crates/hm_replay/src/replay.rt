@@ -1,47 +1,137 @@
-//! From the orders of one file to their report.
-ghost use Rattle.std.specs.Prelude.{◌≡◌, ◌+◌, ◌<◌, ◌≤◌, All, length, IfOk, IfErr, OnOk};
-ghost use Rattle.hm_orders.specs.Orders.{AreRowsOf, IsWellFormed};
-ghost use Rattle.hm_book.specs.Run.{dones_of, empty_state, report_of, state_after_all};
-ghost use Rattle.hm_replay.specs.Replay.{first_room, no_limits, run_cost};
-ghost use Rattle.hm_replay.specs.Refusals.{EndsRun};
+//! From the orders of several files to their report.
+ghost use Rattle.std.specs.Prelude.{◌≡◌, ◌<◌, All, IfOk, IfErr, IfSome, IsSome, List, map, length, Some, None, Err};
+ghost use Rattle.hm_orders.specs.declared.order.Order.{Order};
+ghost use Rattle.hm_cells.specs.Closing.{AreAll};
+ghost use Rattle.hm_cells.specs.Facts.{IsAtRest};
+ghost use Rattle.hm_replay.specs.Loading.{AreOfFiles};
+ghost use Rattle.hm_replay.specs.Headline.{IsBookHeap, IsReplay};
+ghost use Rattle.hm_replay.specs.Concluding.{IfFull, TellsAll, WasFullAt};
+ghost use Rattle.hm_replay.specs.Working.{AreReady, HaveWorked};
 
-use crate::cell_book::CellBook;
-use crate::refusal::Refused;
-use hm_orders::{Board, Done, DoneList, Kind, Order, Report};
+use crate::conclusion::{Came, Stopped, conclude};
+use crate::job::Job;
+use hm_book::Limits;
+use hm_cellbook::{BookUsage, Lengths};
+use hm_cells::{Closed, Pass};
+use hm_desk::{Desk, Gate};
+use hm_heap::{Heap, close};
+use hm_model::Start;
+use hm_orders::{Order, Report};
+use hm_shape::Shape;
 use std::alloc::Global;
+use std::thread::{self, Threads};
 
-/// The report of the orders of one file, applied in order to an empty book.
-pub(crate) fn replay(alloc: Global, orders: &[Order]) -> Result<Report, Refused>
-    requires rows { AreRowsOf 1 orders.now }
-    requires limits { All (λ order. order.kind ≡ Kind.Limit) orders.now }
-    ensures report { IfOk result (λ report. report ≡ report_of no_limits 1 orders.now) }
-    ensures refused { IfErr result (EndsRun first_room (run_cost empty_state orders.now)) }
-{
-    let rows = orders.len() as u64;
-    let mut book = CellBook::new(alloc, rows)?;
-    let done = apply_all(alloc, &mut book, orders)?;
-    Ok(Report {
-        done: DoneList::new(done),
-        board: Board::new(vec![in alloc; rows]?),
-        resting: book.resting(),
-    })
+/// How many versions each of the four regions of a caller has.
+const VERSIONS: u32 = 4096;
+
+/// What a replay came to, and what is left of its heap, where one was made.
+#[derive(Drop)]
+pub(crate) struct Replayed {
+    pub closed: Option<Closed<BookUsage>>,
+    pub ended: Result<Report, Stopped>,
 }
 
-/// Applies the orders to the book, and tells what became of each.
-fn apply_all(alloc: Global, book: &mut CellBook, orders: &[Order]) -> Result<Vec<Done>, Refused>
-    requires limits { All (λ order. order.kind ≡ Kind.Limit) orders.now }
-    requires well_formed { All IsWellFormed orders.now }
-    requires file { All (λ order. order.file ≡ 1) orders.now }
-    requires rows { book.old.state.applied + length orders.now ≤ book.old.rows }
-    ensures done { IfOk result (λ done. done.items ≡ dones_of no_limits book.old.state orders.now) }
-    ensures book { OnOk result
-        (book.new.state ≡ state_after_all no_limits book.old.state orders.now) }
-    ensures refused { IfErr result
-        (EndsRun book.old.room (run_cost book.old.state orders.now)) }
+/// Applies the orders of the files, each file's by a caller of its own, to an empty book on a shared heap.
+pub(crate) fn replay<R: Threads + Sync, G: Gate + Sync>(
+    rt: &R,
+    alloc: Global,
+    files: Vec<Vec<Order>>,
+    gate: &G,
+) -> Replayed
+    requires files { AreOfFiles (map (λ orders. orders.items) files.items) }
+    ensures heap { IfSome result.closed (IsReplay (length files.items)) }
+    ensures unmade { result.closed ≡ None → result.ended ≡ Err Stopped.Memory }
+    ensures report { IfSome result.closed (λ e. IfOk result.ended
+        (TellsAll (map (λ orders. orders.items) files.items) e.history)) }
+    ensures full { IfSome result.closed (λ e. IfErr result.ended
+        (IfFull (WasFullAt (map (λ orders. orders.items) files.items) e.history))) }
 {
-    let mut done = Vec::with_capacity(alloc, orders.len())?;
-    for order in orders {
-        done.push(book.apply(alloc, order)?)?;
+    let Ok((heap, passes)) = open(alloc, files.as_slice()) else {
+        return Replayed {
+            closed: None,
+            ended: Err(Stopped::Memory),
+        };
+    };
+    let (passes, came) = work_all(rt, alloc, &heap, passes, files, gate);
+    let closed = Some(close(heap, passes));
+    let ended = match came {
+        Some(came) => conclude(alloc, came),
+        None => Err(Stopped::Memory),
+    };
+    Replayed { closed, ended }
+}
+
+/// A heap with an empty book, and its passes, one for each file.
+fn open(
+    alloc: Global,
+    files: &[Vec<Order>],
+) -> Result<(Heap<BookUsage>, Vec<Pass<BookUsage>>), Stopped>
+    requires files { AreOfFiles (map (λ orders. orders.items) files.now) }
+    ensures heap { IfOk result (λ r. IsBookHeap (length files.now) r.0.site) }
+    ensures all { IfOk result (λ r. AreAll r.0 r.1.items) }
+    ensures rest { IfOk result (λ r. All IsAtRest r.1.items) }
+    ensures ready { IfOk result (λ r.
+        AreReady r.1.items (map (λ orders. orders.items) files.now)) }
+    ensures memory { IfErr result (λ stopped. stopped ≡ Stopped.Memory) }
+{
+    let mut lengths = Vec::new(alloc);
+    for orders in files {
+        lengths.push(orders.len() as u64)?;
     }
-    Ok(done)
+    let usage = BookUsage {
+        limits: Limits::NONE,
+        lengths: Lengths::new(lengths),
+    };
+    let start = Start {
+        numbers: [0; 10],
+        sides: [None, None, None, Some([0; 10])],
+    };
+    let shape = Shape::new(files.len() as u32, 4, VERSIONS).unwrap();
+    Ok(Heap::make(alloc, shape, usage, start)?)
+}
+
+/// Lets all callers work side by side, each on the orders of its file, and gives their passes back. There is nothing
+/// beside them where there was no memory for that, and then no caller has worked.
+fn work_all<R: Threads + Sync, G: Gate + Sync>(
+    rt: &R,
+    alloc: Global,
+    heap: &Heap<BookUsage>,
+    passes: Vec<Pass<BookUsage>>,
+    files: Vec<Vec<Order>>,
+    gate: &G,
+) -> (Vec<Pass<BookUsage>>, Option<Vec<Came>>)
+    requires all { AreAll heap.now passes.items }
+    requires rest { All IsAtRest passes.items }
+    requires some { 0 < length passes.items }
+    requires ready { AreReady passes.items (map (λ orders. orders.items) files.items) }
+    ensures all { AreAll heap.now result.0.items }
+    ensures worked { IfSome result.1 (λ came. HaveWorked passes.items result.0.items
+        (map (λ orders. orders.items) files.items) came.items) }
+{
+    let count = passes.len();
+    let Ok(mut jobs) = Vec::with_capacity(alloc, count) else {
+        return (passes, None);
+    };
+    let Ok(mut back) = Vec::with_capacity(alloc, count) else {
+        return (passes, None);
+    };
+    let Ok(mut came) = Vec::with_capacity(alloc, count) else {
+        return (passes, None);
+    };
+    for (pass, orders) in passes.into_iter().zip(files) {
+        jobs.push_reserved(Job::new(alloc, heap, pass, orders));
+    }
+    let desk = Desk::new(Limits::NONE);
+    thread::for_each_mut(
+        rt,
+        jobs.as_mut_slice(),
+        count,
+        &|_, job| job.work(alloc, &desk, gate),
+    );
+    for job in jobs {
+        let (pass, ended) = job.end();
+        back.push_reserved(pass);
+        came.push_reserved(ended);
+    }
+    (back, Some(came))
 }

@@ -1,0 +1,55 @@
+-- The callers of a replay at work, each on the orders of its file.
+use Rattle.std.specs.Prelude.{◌≡◌, ℕ, List, length, Some, slice_get}
+use Rattle.hm_orders.specs.declared.order.Order.{Order}
+use Rattle.hm_model.specs.Sight.{IsFresh, IsSameCaller}
+use Rattle.hm_book.specs.Limits.{no_limits}
+use Rattle.hm_cellbook.specs.declared.usage.BookUsage.{BookUsage}
+use Rattle.hm_cells.specs.Facts.{Facts, Made, sight_of}
+use Rattle.hm_ops.specs.Resting.{IsResting}
+use Rattle.hm_heap.specs.Mutators.{AreSameCallers}
+use Rattle.hm_desk.specs.Desk.{AreOwn, KeepsBook}
+use Rattle.hm_desk.specs.Progress.{HasCome}
+use Rattle.hm_replay.specs.declared.conclusion.Came.{Came}
+use Rattle.hm_replay.specs.Concluding.{HasEnded}
+
+-- a caller at work: its pass, the orders of its file, and what its work came to
+pub record Working : Type 0 where
+  pub pass : Facts BookUsage
+  pub orders : List Order
+  pub came : Came
+
+-- a pass is ready for the orders of its file where it is fresh, its heap has an empty book without
+-- limits, and each of its regions has 4096 places
+pub record IsReady (s : Facts BookUsage) (orders : List Order) : Type 0 where
+  pub keeps : KeepsBook no_limits (sight_of s)
+  pub own : AreOwn (sight_of s) orders
+  pub fresh : IsFresh (sight_of s)
+  pub span : (sight_of s).span ≡ 4096
+
+-- a caller is at work on a heap, and what it notes is so
+pub record IsAtWork (w : Working) : Type 0 where
+  pub keeps : KeepsBook no_limits (sight_of w.pass)
+  pub own : AreOwn (sight_of w.pass) w.orders
+  pub span : (sight_of w.pass).span ≡ 4096
+  pub come : HasCome (sight_of w.pass) w.orders w.came.progress
+  pub ended : HasEnded w.orders w.came.progress.next w.came.progress.told w.came.worked
+
+-- each pass is ready for the orders of its file
+pub record AreReady (passes : List (Facts BookUsage)) (files : List (List Order)) : Type 0 where
+  pub count : length passes ≡ length files
+  pub each : (k : ℕ) (s : Facts BookUsage) (orders : List Order) → slice_get passes k ≡ Some s
+      → slice_get files k ≡ Some orders → IsReady s orders
+
+-- each caller has come to something with the orders of its file, from where its pass was on
+pub record HaveWorked (before after : List (Facts BookUsage)) (files : List (List Order))
+    (came : List Came) : Type 0 where
+  pub count : length came ≡ length files
+  pub callers : AreSameCallers before after
+  pub each : (k : ℕ) (s : Facts BookUsage) (orders : List Order) (c : Came)
+      → slice_get after k ≡ Some s → slice_get files k ≡ Some orders → slice_get came k ≡ Some c
+      → IsAtWork record { pass = s; orders = orders; came = c }
+
+-- a caller works on, on the same heap and the same orders
+pub record Works (v w : Working) : Type 0 where
+  pub caller : IsSameCaller (sight_of v.pass) (sight_of w.pass)
+  pub orders : w.orders ≡ v.orders
