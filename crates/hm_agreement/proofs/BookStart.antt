@@ -20,11 +20,11 @@ abbrev zeros : Numbers
 zeros = replicate 10 0
 
 -- the start of a heap with an empty book
-abbrev book_start : Start
+abbrev pub book_start : Start
 book_start = record { numbers = zeros; sides = None ∷ None ∷ None ∷ Some zeros ∷ [] }
 
 -- every start with an empty book is this one
-start_is : (start : Start) → IsBookStart start → start ≡ book_start
+pub start_is : (start : Start) → IsBookStart start → start ≡ book_start
 start_is start h = λ i. record { numbers = h.numbers i; sides = h.sides i }
 
 -- the opening spells no order

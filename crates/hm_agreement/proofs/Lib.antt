@@ -3,3 +3,4 @@ pub mod Agreeing
 pub mod OneBook
 pub mod BookStart
 pub mod SpelledRun
+pub mod Parts

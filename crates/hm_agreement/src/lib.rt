@@ -13,5 +13,6 @@
 mod laws;
 
 pub use laws::{
-    contents_have_at_most_one_book, the_book_of_a_lawful_history_is_the_run_of_its_orders,
+    contents_have_at_most_one_book, each_file_is_what_its_caller_spelled,
+    the_book_of_a_lawful_history_is_the_run_of_its_orders,
 };

@@ -18,3 +18,4 @@ pub mod SoundSteps
 pub mod AfterLimit
 pub mod Apart
 pub mod Runs
+pub mod Parts

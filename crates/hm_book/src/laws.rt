@@ -1,15 +1,17 @@
 //! Laws of the definitions that the contracts cite.
-ghost use Rattle.std.specs.Prelude.{◌≡◌, ◌↔◌, ◌<◌, ℕ, List, length, AllPairs, IfSome, IsNone, IsTrue};
+ghost use Rattle.std.specs.Prelude.{◌≡◌, ◌↔◌, ◌<◌, ℕ, List, length, map, AllPairs, IfSome, IsNone, IsTrue};
+ghost use Rattle.std.specs.List.{range_with_len};
 ghost use Rattle.hm_orders.specs.declared.order.Order.{Order};
 ghost use Rattle.hm_orders.specs.declared.order.Side.{Side};
 ghost use Rattle.hm_orders.specs.Orders.{IsWellFormed};
+ghost use Rattle.hm_orders.specs.Interleaving.{Interleaves};
 ghost use Rattle.hm_book.specs.declared.book.Resting.{Resting};
 ghost use Rattle.hm_book.specs.declared.limits.Limits.{Limits};
 ghost use Rattle.hm_book.specs.Limits.{admits, no_limits};
 ghost use Rattle.hm_book.specs.Trading.{best_opposite, trades};
 ghost use Rattle.hm_book.specs.Best.{IsBest, NoneOpposes};
 ghost use Rattle.hm_book.specs.Queue.{can_trade, traded_along, IsQueue};
-ghost use Rattle.hm_book.specs.Run.{empty_state, state_after, BookState};
+ghost use Rattle.hm_book.specs.Run.{empty_state, report_of, state_after, BookState};
 ghost use Rattle.hm_book.specs.Sound.{IsSound};
 
 use crate::limits::Limits;
@@ -43,4 +45,24 @@ pub fn a_book_stays_sound()
 pub fn no_limits_admit_every_order()
     ensures widest { Limits.NONE ≡ no_limits }
     ensures admits { (order : Order) → IsWellFormed order → IsTrue (admits no_limits order) }
+{}
+
+/// A report tells of each order once, in order: by its file, by its row, and by a root number, counted from 1.
+pub fn a_report_tells_of_each_order()
+    ensures roots { (limits : Limits) (files : ℕ) (orders : List Order)
+        → map (λ done. done.root) (report_of limits files orders).done
+        ≡ range_with_len 1 (length orders) }
+    ensures files { (limits : Limits) (files : ℕ) (orders : List Order)
+        → map (λ done. done.file) (report_of limits files orders).done
+        ≡ map (λ order. order.file) orders }
+    ensures rows { (limits : Limits) (files : ℕ) (orders : List Order)
+        → map (λ done. done.row) (report_of limits files orders).done
+        ≡ map (λ order. order.row) orders }
+{}
+
+/// The board of a report of orders that interleave files tells how many orders each file has.
+pub fn a_report_of_an_interleaving_counts_its_files()
+    ensures { (limits : Limits) (files : List (List Order)) (orders : List Order)
+        → Interleaves files orders
+        → (report_of limits (length files) orders).board ≡ map length files }
 {}

@@ -14,8 +14,8 @@ mod trading;
 
 pub use book::{Book, Memory, Resting};
 pub use laws::{
-    a_book_stays_sound, an_order_trades_along_its_queue, best_opposite_is_best,
-    no_limits_admit_every_order,
+    a_book_stays_sound, a_report_of_an_interleaving_counts_its_files, a_report_tells_of_each_order,
+    an_order_trades_along_its_queue, best_opposite_is_best, no_limits_admit_every_order,
 };
 pub use limits::Limits;
 pub use priority::crosses;
