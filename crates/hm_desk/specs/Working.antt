@@ -18,6 +18,8 @@ use Rattle.hm_cellbook.specs.declared.attempt.Attempt.{Attempt}
 use Rattle.hm_cellbook.specs.Fetched.{book_allowed, book_lawful}
 use Rattle.hm_cellbook.specs.declared.attempt.AttemptRefused.{AttemptRefused}
 use Rattle.hm_cellbook.specs.declared.attempt.AttemptRefused.TheVariants as refusal
+use Rattle.hm_model.specs.declared.root.StoreIfRefused.{StoreIfRefused}
+use Rattle.hm_model.specs.declared.root.StoreIfRefused.TheVariants as store_refusal
 use Rattle.hm_desk.specs.declared.applying.Tried.{Tried}
 use Rattle.hm_desk.specs.declared.applying.Tried.TheVariants as tried
 use Rattle.hm_desk.specs.declared.progress.Progress.{Progress}
@@ -89,3 +91,8 @@ pub record IsReady (c : Sight BookUsage) (order : Order) (stamp : ℕ) (a : Atte
 abbrev pub tried_refused : AttemptRefused → Tried
 tried_refused refusal.Full = tried.Full
 tried_refused refusal.Memory = tried.Memory
+
+-- so it ends where its conditional store is refused
+abbrev pub tried_to_store : StoreIfRefused → Tried
+tried_to_store store_refusal.Full = tried.Full
+tried_to_store (store_refusal.Changed found) = tried.Changed

@@ -47,6 +47,19 @@ impl From<AttemptRefused> for Tried {
     }
 }
 
+impl From<StoreIfRefused> for Tried {
+    ghost use Rattle.hm_desk.specs.Working.{tried_to_store};
+
+    ghost from_gives = { λ refused tried. tried ≡ tried_to_store refused };
+
+    fn from(refused: StoreIfRefused) -> Tried {
+        match refused {
+            StoreIfRefused::Full => Tried::Full,
+            StoreIfRefused::Changed { .. } => Tried::Changed,
+        }
+    }
+}
+
 /// Fetches the common object and the names of its lists and of the board.
 fn fetch_book<C: Worker<BookUsage>>(c: &mut C) -> Snapshot
     requires desk { IsAtDesk (C.sight c.old) }
@@ -94,6 +107,7 @@ fn store<C: Worker<BookUsage>>(
         (λ order. IsReady (C.sight c.old) order stamp attempt) }
     requires more { so_far.old.next < length orders.now }
     requires settled { so_far.old.told ≡ so_far.old.next }
+    requires stamp { stamp ≤ book_stamp (C.sight c.old) }
     ensures work { IsAtWork (C.sight c.new) orders.now so_far.new }
     ensures goes { GoesOn (C.sight c.old) (C.sight c.new) }
     ensures roots { (C.sight c.new).roots ≡ (C.sight c.old).roots }
@@ -111,17 +125,17 @@ fn store<C: Worker<BookUsage>>(
     if so_far.done.push(done).is_err() {
         return Tried::Memory;
     }
-    let refused = match c.store_if(COMMON, stamp, refs, numbers) {
+    match c.store_if(COMMON, stamp, refs, numbers) {
         Ok(()) => {
             so_far.next += 1;
             so_far.resting = numbers[8];
-            return Tried::Applied;
+            Tried::Applied
         }
-        Err(StoreIfRefused::Full) => Tried::Full,
-        Err(StoreIfRefused::Changed { .. }) => Tried::Changed,
-    };
-    so_far.done.pop();
-    refused
+        Err(refused) => {
+            so_far.done.pop();
+            Tried::from(refused)
+        }
+    }
 }
 
 /// Attempts the next order at the book as it is.

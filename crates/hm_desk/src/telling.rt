@@ -65,8 +65,10 @@ pub(crate) fn tell<C: Worker<BookUsage>>(
     ensures full { IfErr result (λ halt. IfFull halt (WasFull (C.sight c.old))) }
 {
     let mut tended = false;
-    while store_owed(c, orders, so_far).is_err() {
-        meet_full(c, &mut tended)?;
+    loop {
+        match store_owed(c, orders, so_far) {
+            Ok(()) => return Ok(()),
+            Err(Full) => meet_full(c, &mut tended)?,
+        }
     }
-    Ok(())
 }

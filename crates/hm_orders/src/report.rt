@@ -135,7 +135,8 @@ impl DoneList {
 
     /// Takes the last away again.
     pub fn pop(&mut self) -> Option<Done>
-        ensures none { result ≡ None → self.new ≡ [] }
+        ensures none { result ≡ None → self.old ≡ [] }
+        ensures empty { result ≡ None → self.new ≡ [] }
         ensures last { IfSome result (λ done. self.old ≡ self.new ++ done ∷ []) }
     {
         self.items.pop()
