@@ -8,6 +8,7 @@ use Rattle.hm_orders.specs.declared.report.Done.{Done}
 use Rattle.hm_orders.specs.Interleaving.{dones_part, part_of}
 use Rattle.hm_model.specs.declared.entry.Entry.{Entry}
 use Rattle.hm_model.specs.Sight.{Sight, Goes}
+use Rattle.hm_model.specs.Tending.{KeepsNames}
 use Rattle.hm_book.specs.declared.limits.Limits.{Limits}
 use Rattle.hm_book.specs.Run.{BookState, done_of, dones_of, empty_state, state_after, state_after_all}
 use Rattle.hm_book.proofs.Parts.{dones_of-append, dones_part-append, dones_part-none}
@@ -20,7 +21,7 @@ use Rattle.hm_cellbook.specs.Fetched.{book_allowed, book_lawful}
 use Rattle.hm_desk.specs.declared.progress.Progress.{Progress}
 use Rattle.hm_desk.specs.Progress.{HasCome, dones_seen, last_root, state_seen}
 use Rattle.hm_desk.specs.Working.{GoesQuietly, IsAtDesk, IsAtWork}
-use Rattle.hm_desk.proofs.Quiet.{own_goes}
+use Rattle.hm_desk.proofs.Quiet.{desk_names, own_goes, quiet_names}
 
 -- each order counts
 pub applied_all : (limits : Limits) (state : BookState) (orders : List Order)
@@ -131,3 +132,8 @@ work_quietly c d orders p h quiet desk = record {
   own = own_goes c d orders quiet.goes.caller h.own;
   come = come_quietly c d orders p h.come quiet;
 }
+
+-- so it is where it tends
+pub work_names : (c d : Sight BookUsage) (orders : List Order) (p : Progress) → IsAtWork c orders p → KeepsNames c d
+    → IsAtWork d orders p
+work_names c d orders p h same = work_quietly c d orders p h (quiet_names c d same) (desk_names c d h.desk same)

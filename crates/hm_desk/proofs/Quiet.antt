@@ -1,5 +1,5 @@
 -- Stretches of a caller's work that spell no order and tell the board nothing.
-use Rattle.std.proofs.Common.{◌≡◌, ℕ, ◌+◌, ◌<◌, ◌≤◌, List, [], ◌∷◌, ◌++◌, All, Option, None, Some, length, fold, refl, sym, ap, ◌∙◌, subst, append-nil, arith, slice_index}
+use Rattle.std.proofs.Common.{◌≡◌, ℕ, ◌+◌, ◌<◌, ◌≤◌, List, [], ◌∷◌, ◌++◌, All, Option, None, Some, Result, Ok, Err, IfErr, length, fold, refl, sym, ap, ◌∙◌, subst, append-nil, arith, slice_index}
 use Rattle.std.proofs.lemmas.List.Elements.{All-head, All-tail}
 use Rattle.std.proofs.lemmas.List.Sums.{fold-append}
 use Rattle.hm_orders.specs.declared.order.Order.{Order}
@@ -179,3 +179,12 @@ full_earlier c d (halt.Full used free) on h = record {
   free_then = h.free_then;
 }
 full_earlier c d halt.Memory on h = tt
+
+pub full_earlier_err : (c d : Sight BookUsage) (r : Result (Unit {0}) Halt) → GoesOn c d
+    → IfErr r (λ halted. IfFull halted (WasFull d)) → IfErr r (λ halted. IfFull halted (WasFull c))
+full_earlier_err c d (Ok x) on h = tt
+full_earlier_err c d (Err e) on h = full_earlier c d e on h
+
+-- a caller that tends goes on
+pub on_names : (c d : Sight BookUsage) → KeepsNames c d → GoesOn c d
+on_names c d h = quiet_on c d (quiet_names c d h)

@@ -1,9 +1,9 @@
 -- What a conditional store and a store to the board make of how far a caller has come.
-use Rattle.std.proofs.Common.{◌≡◌, ◌⊎◌, inl, inr, ℕ, ◌≢◌, ◌+◌, ◌==◌, ◌<◌, ◌≤◌, Bool, true, false, cond, Result, Ok, Err, OnOk, List, [], ◌∷◌, ◌++◌, Option, Some, None, IfSome, length, take, suc, refl, sym, ap, ◌∙◌, subst, append_assoc, arith, length-append, slice_index, eq-eqb}
+use Rattle.std.proofs.Common.{◌≡◌, ◌⊎◌, inl, inr, ℕ, ◌≢◌, ◌+◌, ◌==◌, ◌<◌, ◌≤◌, Bool, true, false, cond, Result, Ok, Err, OnOk, List, [], ◌∷◌, ◌++◌, Option, Some, None, IfSome, length, take, suc, refl, sym, ap, ◌∙◌, subst, append_assoc, arith, length-append, slice_index, eq-eqb, get_or}
 use Rattle.std.specs.List.{slice_get}
 use Rattle.std.specs.Result.{is_err}
 use Rattle.std.proofs.Math.Seq.{take-append_seam, take-length, take-suc}
-use Rattle.std.proofs.lemmas.Option.{get_or_from_slice_get, slice_get_cases, slice_get_within}
+use Rattle.std.proofs.lemmas.Option.{get_or_from_slice_get, slice_get-get_or, slice_get_cases, slice_get_within}
 use Rattle.std.proofs.lemmas.List.Sums.{fold-append}
 use Rattle.hm_orders.specs.declared.order.Order.{Order}
 use Rattle.hm_orders.specs.declared.report.Done.{Done}
@@ -50,6 +50,10 @@ next_order orders n P h some = elim ((slice_get_cases orders n).1) [
   | inl here ↦ (here.0, here.2, subst (λ (o : Option Order). IfSome o P) here.2 some)
   | inr past ↦ absurd (let le : length orders ≤ n = past.0 in omega arith)
 ]
+
+pub ready_next : (orders : List Order) (n : ℕ) (d : Order) (P : Order → Type 0) → n < length orders
+    → P (get_or orders n d) → IfSome (slice_get orders n) P
+ready_next orders n d P h here = subst (λ (o : Option Order). IfSome o P) (sym (slice_get-get_or orders n d h)) here
 
 take_next : (orders : List Order) (n : ℕ) (order : Order) → slice_get orders n ≡ Some order
     → take n orders ++ order ∷ [] ≡ take (n + 1) orders

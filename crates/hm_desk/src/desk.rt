@@ -12,7 +12,7 @@ use crate::applying::apply;
 use crate::gate::Gate;
 use crate::halt::Halt;
 use crate::progress::Progress;
-use crate::telling::{fetch_board, tell};
+use crate::telling::{settle, tell};
 use crate::tending::tend_after;
 use hm_book::Limits;
 use hm_cellbook::BookUsage;
@@ -139,10 +139,7 @@ fn work_through<C: Worker<BookUsage>, G: Gate>(
     ensures told { OnOk result (so_far.new.told ≡ so_far.new.next) }
     ensures full { IfErr result (λ halt. IfFull halt (WasFull (C.sight c.old))) }
 {
-    if so_far.told < so_far.next {
-        fetch_board(c);
-        tell(c, orders, so_far)?;
-    }
+    settle(c, orders, so_far)?;
     while so_far.next < orders.len() as u64 {
         work_on(alloc, c, orders, so_far, gate)?;
     }

@@ -16,7 +16,7 @@ use hm_orders::Order;
 const BOARD: Root = Root(7);
 
 /// Names the board, which is the common object's reference 3.
-pub(crate) fn fetch_board<C: Worker<BookUsage>>(c: &mut C)
+fn fetch_board<C: Worker<BookUsage>>(c: &mut C)
     requires desk { IsAtDesk (C.sight c.old) }
     ensures desk { IsAtDesk (C.sight c.new) }
     ensures quiet { GoesQuietly (C.sight c.old) (C.sight c.new) }
@@ -71,4 +71,24 @@ pub(crate) fn tell<C: Worker<BookUsage>>(
             Err(Full) => meet_full(c, &mut tended)?,
         }
     }
+}
+
+/// The same, where it is owed a number. It may not be named then.
+pub(crate) fn settle<C: Worker<BookUsage>>(
+    c: &mut C,
+    orders: &[Order],
+    so_far: &mut Progress,
+) -> Result<(), Halt>
+    requires work { IsAtWork (C.sight c.old) orders.now so_far.old }
+    ensures work { IsAtWork (C.sight c.new) orders.now so_far.new }
+    ensures goes { GoesOn (C.sight c.old) (C.sight c.new) }
+    ensures next { so_far.new.next ≡ so_far.old.next }
+    ensures told { OnOk result (so_far.new.told ≡ so_far.new.next) }
+    ensures full { IfErr result (λ halt. IfFull halt (WasFull (C.sight c.old))) }
+{
+    if so_far.told == so_far.next {
+        return Ok(());
+    }
+    fetch_board(c);
+    tell(c, orders, so_far)
 }

@@ -3,6 +3,7 @@ use Rattle.std.proofs.Common.{◌≡◌, ◌≤◌, ◌∙◌, ◌+◌, Some, sy
 use Rattle.hm_orders.specs.declared.order.Order.{Order}
 use Rattle.hm_desk.proofs.Quiet.{on_then, quiet_on, quiet_then, stamp_goes}
 use Rattle.hm_desk.proofs.Coming.{work_quietly}
+use Rattle.hm_desk.proofs.Storing.{ready_next}
 use Rattle.hm_desk.proofs.applying.attempt.Goals as goal
 
 pub store-requires-clause-work : goal.store-requires-clause-work
@@ -11,7 +12,8 @@ store-requires-clause-work g c =
     (quiet_then _ _ _ c.fetch_book-at.ensures.quiet c.build.ensures.quiet) c.build.ensures.desk
 
 pub store-requires-clause-order : goal.store-requires-clause-order
-store-requires-clause-order g c = ?
+store-requires-clause-order g c = 
+    ready_next _ _ _ _ c.requires.more c.in-Ok.ensures.ready
 
 pub store-requires-clause-stamp : goal.store-requires-clause-stamp
 store-requires-clause-stamp g c =
