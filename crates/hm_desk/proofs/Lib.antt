@@ -3,3 +3,4 @@ pub mod Quiet
 pub mod Coming
 pub mod Attempting
 pub mod Storing
+pub mod Ending

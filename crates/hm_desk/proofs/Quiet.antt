@@ -1,5 +1,5 @@
 -- Stretches of a caller's work that spell no order and tell the board nothing.
-use Rattle.std.proofs.Common.{◌≡◌, ℕ, ◌+◌, ◌<◌, ◌≤◌, List, [], ◌∷◌, ◌++◌, All, Option, None, Some, Result, Ok, Err, IfErr, length, fold, refl, sym, ap, ◌∙◌, subst, append-nil, arith, slice_index}
+use Rattle.std.proofs.Common.{◌≡◌, ℕ, ◌+◌, ◌<◌, ◌≤◌, List, [], ◌∷◌, ◌++◌, All, Option, Some, Result, Ok, Err, IfErr, length, fold, refl, sym, ap, ◌∙◌, subst, append-nil, arith, slice_index}
 use Rattle.std.proofs.lemmas.List.Elements.{All-head, All-tail}
 use Rattle.std.proofs.lemmas.List.Sums.{fold-append}
 use Rattle.hm_orders.specs.declared.order.Order.{Order}

@@ -1,5 +1,5 @@
 -- What a conditional store and a store to the board make of how far a caller has come.
-use Rattle.std.proofs.Common.{◌≡◌, ◌⊎◌, inl, inr, ℕ, ◌≢◌, ◌+◌, ◌==◌, ◌<◌, ◌≤◌, Bool, true, false, cond, Result, Ok, Err, OnOk, List, [], ◌∷◌, ◌++◌, Option, Some, None, IfSome, length, take, suc, refl, sym, ap, ◌∙◌, subst, append_assoc, arith, length-append, slice_index, eq-eqb, get_or}
+use Rattle.std.proofs.Common.{◌≡◌, inl, inr, ℕ, ◌≢◌, ◌+◌, ◌<◌, ◌≤◌, Bool, false, cond, Result, Ok, Err, OnOk, List, [], ◌∷◌, ◌++◌, Option, Some, None, IfSome, length, take, suc, refl, sym, ap, ◌∙◌, subst, arith, length-append, slice_index, eq-eqb, get_or}
 use Rattle.std.specs.List.{slice_get}
 use Rattle.std.specs.Result.{is_err}
 use Rattle.std.proofs.Math.Seq.{take-append_seam, take-length, take-suc}
@@ -28,7 +28,7 @@ use Rattle.hm_book.specs.Run.{BookState, done_of, dones_of, empty_state, state_a
 use Rattle.hm_book.proofs.Runs.{state_after_all-append}
 use Rattle.hm_book.proofs.Parts.{dones_of-append, dones_part-append, dones_part-none}
 use Rattle.hm_agreement.specs.Cells.{board_name, book_name}
-use Rattle.hm_agreement.specs.Spelled.{HasState, spelled}
+use Rattle.hm_agreement.specs.Spelled.{spelled}
 use Rattle.hm_agreement.specs.Told.{last_told, told_after}
 use Rattle.hm_agreement.proofs.SpelledRun.{order_back, spelled-append, state_of_history, state_reached}
 use Rattle.hm_agreement.proofs.Parts.{part_others}

@@ -1,5 +1,5 @@
 -- Tends, one after another.
-use Rattle.std.proofs.Common.{◌≡◌, refl, ◌∙◌}
+use Rattle.std.proofs.Common.{refl, ◌∙◌}
 use Rattle.hm_model.specs.Sight.{Sight}
 use Rattle.hm_model.specs.Tending.{KeepsNames}
 use Rattle.hm_model.proofs.SightFacts.{same_caller_then}

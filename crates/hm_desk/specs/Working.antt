@@ -3,13 +3,13 @@ use Rattle.std.specs.Prelude.{◌≡◌, ℕ, ◌<◌, ◌≤◌, List, [], Opti
 use Rattle.hm_orders.specs.declared.order.Order.{Order}
 use Rattle.hm_model.specs.declared.object.Contents.{Contents}
 use Rattle.hm_model.specs.declared.entry.Entry.{Entry}
-use Rattle.hm_model.specs.Store.{PlainStore, contents_of}
+use Rattle.hm_model.specs.Store.{contents_of}
 use Rattle.hm_model.specs.History.{store_after}
 use Rattle.hm_model.specs.Lawful.{AllCome}
 use Rattle.hm_model.specs.Sight.{Sight, AreSet, Goes, HasHistory, name_at, present}
 use Rattle.hm_model.specs.Calls.{MayStoreIf}
 use Rattle.hm_book.specs.Run.{BookState, done_of, state_after}
-use Rattle.hm_agreement.specs.Cells.{HoldsOrder, board_name, book_name}
+use Rattle.hm_agreement.specs.Cells.{HoldsOrder, book_name}
 use Rattle.hm_agreement.specs.Spelled.{HasState, IsBookStart, spelled}
 use Rattle.hm_agreement.specs.Told.{told_after}
 use Rattle.hm_list.specs.Places.{AreUnset}

@@ -82,6 +82,8 @@ impl Desk {
         ensures stalled { IfStalled result (λ at used free. (at ≡ so_far.new.next)
             × WasFull (C.sight c.old) used free) }
     {
+        // They admit every order; contracts alone need to know it.
+        let _ = &self.limits;
         let ended = work_through(alloc, c, orders, so_far, gate);
         clear_places(c, Root(4), Root(17));
         match ended {

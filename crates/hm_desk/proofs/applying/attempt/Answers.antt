@@ -1,6 +1,5 @@
 -- The fetch, the attempt and its conditional store, one after another.
-use Rattle.std.proofs.Common.{◌≡◌, ◌≤◌, ◌∙◌, ◌+◌, Some, sym, ap, subst, arith}
-use Rattle.hm_orders.specs.declared.order.Order.{Order}
+use Rattle.std.proofs.Common.{arith}
 use Rattle.hm_desk.proofs.Quiet.{on_then, quiet_on, quiet_then, stamp_goes}
 use Rattle.hm_desk.proofs.Coming.{work_quietly}
 use Rattle.hm_desk.proofs.Storing.{ready_next}
@@ -12,7 +11,7 @@ store-requires-clause-work g c =
     (quiet_then _ _ _ c.fetch_book-at.ensures.quiet c.build.ensures.quiet) c.build.ensures.desk
 
 pub store-requires-clause-order : goal.store-requires-clause-order
-store-requires-clause-order g c = 
+store-requires-clause-order g c =
     ready_next _ _ _ _ c.requires.more c.in-Ok.ensures.ready
 
 pub store-requires-clause-stamp : goal.store-requires-clause-stamp

@@ -1,11 +1,10 @@
 -- Where the attempt was stored one order more is applied; where it was not, what was noted is taken away again.
-use Rattle.std.proofs.Common.{◌≡◌, ◌∙◌, ◌++◌, ◌∷◌, [], List, Err, refl, ap, sym, subst, slice_index}
+use Rattle.std.proofs.Common.{◌≡◌, ◌∙◌, List, Err, refl, ap, sym, subst, slice_index}
 use Rattle.std.specs.Prelude.{◌+◌}
 use Rattle.hm_orders.specs.declared.report.Done.{Done}
 use Rattle.hm_model.specs.declared.root.StoreIfRefused.{StoreIfRefused}
 use Rattle.hm_model.specs.declared.root.StoreIfRefused.TheVariants as refusal
-use Rattle.hm_desk.specs.declared.progress.Progress.{Progress}
-use Rattle.hm_desk.specs.Working.{GoesQuietly, IsAtDesk, IsAtWork}
+use Rattle.hm_desk.specs.Working.{IsAtDesk, IsAtWork}
 use Rattle.hm_desk.proofs.Coming.{work_quietly}
 use Rattle.hm_desk.proofs.Storing.{next_order, work_stored, desk_refused, quiet_refused, changed_refused, pushed, popped}
 use Rattle.hm_desk.proofs.applying.store.Goals as goal

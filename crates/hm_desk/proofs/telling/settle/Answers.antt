@@ -1,6 +1,5 @@
 -- The board is named first, and then told.
-use Rattle.std.proofs.Common.{refl, arith, ⊎_elim, ◌≡◌, ◌+◌}
-use Rattle.hm_desk.proofs.Quiet.{full_earlier_err, on_none, on_then, quiet_on}
+use Rattle.hm_desk.proofs.Quiet.{full_earlier_err, on_then, quiet_on}
 use Rattle.hm_desk.proofs.Coming.{work_quietly}
 use Rattle.hm_desk.proofs.telling.settle.Goals as goal
 

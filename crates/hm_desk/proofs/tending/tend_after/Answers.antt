@@ -11,6 +11,5 @@ loop-moves-preserved-in-Advanced g c = names_then _ _ _ c.loop-moves.invariant c
 pub loop-moves-preserved : goal.loop-moves-preserved
 loop-moves-preserved g c = names_then _ _ _ c.loop-moves.invariant c.tend.ensures.same
 
-
 pub returns-in-Nothing : goal.returns-in-Nothing
 returns-in-Nothing g c = record { same = names_then _ _ _ c.loop-moves.invariant c.tend.ensures.same }
