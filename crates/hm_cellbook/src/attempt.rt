@@ -215,6 +215,8 @@ pub fn cell_apply<C: Caller<BookUsage>>(
         (length book) - 2) }
     ensures names { (k : ℕ) → k < 8
         → name_at (C.sight c.new).roots k ≡ name_at (C.sight c.old).roots k }
+    ensures beyond { (k : ℕ) → 256 ≤ k
+        → name_at (C.sight c.new).roots k ≡ name_at (C.sight c.old).roots k }
     ensures unset { OnErr result (AreUnset (C.sight c.new) 8 256) }
     ensures full { result ≡ Err AttemptRefused.Full → (C.sight c.new).room ≡ 0 }
 {

@@ -1,0 +1,6 @@
+pub mod Tended
+pub mod Quiet
+pub mod Coming
+pub mod Attempting
+pub mod Storing
+pub mod Ending

@@ -1,3 +1,4 @@
 pub mod Desk
 pub mod Progress
 pub mod Stalling
+pub mod Working

@@ -7,6 +7,8 @@ use Rattle.hm_cellbook.specs.declared.usage.BookUsage.{BookUsage}
 use Rattle.hm_cellbook.specs.Fetched.{book_allowed, book_lawful}
 use Rattle.hm_desk.specs.declared.desk.Worked.{Worked}
 use Rattle.hm_desk.specs.declared.desk.Worked.TheVariants.{Finished, Stalled, Memory}
+use Rattle.hm_desk.specs.declared.halt.Halt.{Halt}
+use Rattle.hm_desk.specs.declared.halt.Halt.TheVariants as halt
 
 -- where work stalled, a fact may be said of the order that it stalled at and of the two counts
 abbrev pub IfStalled : Worked → (ℕ → ℕ → ℕ → Type 0) → Type 0
@@ -24,3 +26,8 @@ pub record WasFull (c : Sight BookUsage) (used free : ℕ) : Type 0 where
   pub none : allowed_versions moment ≡ 0
   pub used_then : used ≡ moment.used
   pub free_then : free ≡ moment.free
+
+-- where a caller was halted since it was full, a fact may be said of the two counts
+abbrev pub IfFull : Halt → (ℕ → ℕ → Type 0) → Type 0
+IfFull (halt.Full used free) P = P used free
+IfFull halt.Memory P = Unit {0}

@@ -1,17 +1,23 @@
 //! A desk, at which a caller applies its orders to the book on a heap.
-ghost use Rattle.std.specs.Prelude.{◌≡◌, ◌≤◌, length, List};
+ghost use Rattle.std.specs.Prelude.{◌≡◌, ◌+◌, ◌<◌, ◌≤◌, length, List, OnOk, IfErr};
 ghost use Rattle.hm_model.specs.declared.entry.Entry.{Entry};
 ghost use Rattle.hm_model.specs.Sight.{Goes};
 ghost use Rattle.hm_cellbook.specs.Fetched.{book_allowed, book_lawful};
 ghost use Rattle.hm_desk.specs.Desk.{AdmitAll, AreOwn, KeepsBook};
 ghost use Rattle.hm_desk.specs.Progress.{HasCome};
-ghost use Rattle.hm_desk.specs.Stalling.{IfStalled, WasFull};
+ghost use Rattle.hm_desk.specs.Stalling.{IfFull, IfStalled, WasFull};
+ghost use Rattle.hm_desk.specs.Working.{GoesOn, IsAtWork};
 
+use crate::applying::apply;
 use crate::gate::Gate;
+use crate::halt::Halt;
 use crate::progress::Progress;
+use crate::telling::{settle, tell};
+use crate::tending::tend_after;
 use hm_book::Limits;
 use hm_cellbook::BookUsage;
-use hm_model::Worker;
+use hm_list::clear_places;
+use hm_model::{Root, Worker};
 use hm_orders::Order;
 use std::alloc::Global;
 use std::marker::Model;
@@ -29,7 +35,7 @@ pub enum Worked {
 }
 
 /// The limits under which callers apply orders.
-#[derive(Clone, Copy, Debug, PartialEq, Eq)]
+#[derive(Debug, Drop)]
 pub struct Desk {
     limits: Limits,
 }
@@ -76,6 +82,68 @@ impl Desk {
         ensures stalled { IfStalled result (λ at used free. (at ≡ so_far.new.next)
             × WasFull (C.sight c.old) used free) }
     {
-        loop {}
+        // They admit every order; contracts alone need to know it.
+        let _ = &self.limits;
+        let ended = work_through(alloc, c, orders, so_far, gate);
+        clear_places(c, Root(4), Root(17));
+        match ended {
+            Ok(()) => Worked::Finished,
+            Err(Halt::Full { used, free }) => Worked::Stalled {
+                at: so_far.next,
+                used,
+                free,
+            },
+            Err(Halt::Memory) => Worked::Memory,
+        }
     }
+}
+
+/// Applies the next order, tells the board, and tends.
+fn work_on<C: Worker<BookUsage>, G: Gate>(
+    alloc: Global,
+    c: &mut C,
+    orders: &[Order],
+    so_far: &mut Progress,
+    gate: &G,
+) -> Result<(), Halt>
+    requires work { IsAtWork (C.sight c.old) orders.now so_far.old }
+    requires more { so_far.old.next < length orders.now }
+    requires settled { so_far.old.told ≡ so_far.old.next }
+    ensures work { IsAtWork (C.sight c.new) orders.now so_far.new }
+    ensures goes { GoesOn (C.sight c.old) (C.sight c.new) }
+    ensures further { so_far.old.next ≤ so_far.new.next }
+    ensures next { OnOk result (so_far.new.next ≡ so_far.old.next + 1) }
+    ensures told { OnOk result (so_far.new.told ≡ so_far.new.next) }
+    ensures full { IfErr result (λ halt. IfFull halt (WasFull (C.sight c.old))) }
+{
+    let order = &orders[so_far.next as usize];
+    // The files are numbered one above their callers.
+    gate.pass(order.file - 1, order.row);
+    apply(alloc, c, orders, so_far)?;
+    tell(c, orders, so_far)?;
+    tend_after(c);
+    Ok(())
+}
+
+/// The same for all orders that are left, after the number that the board is owed.
+fn work_through<C: Worker<BookUsage>, G: Gate>(
+    alloc: Global,
+    c: &mut C,
+    orders: &[Order],
+    so_far: &mut Progress,
+    gate: &G,
+) -> Result<(), Halt>
+    requires work { IsAtWork (C.sight c.old) orders.now so_far.old }
+    ensures work { IsAtWork (C.sight c.new) orders.now so_far.new }
+    ensures goes { GoesOn (C.sight c.old) (C.sight c.new) }
+    ensures further { so_far.old.next ≤ so_far.new.next }
+    ensures next { OnOk result (so_far.new.next ≡ length orders.now) }
+    ensures told { OnOk result (so_far.new.told ≡ so_far.new.next) }
+    ensures full { IfErr result (λ halt. IfFull halt (WasFull (C.sight c.old))) }
+{
+    settle(c, orders, so_far)?;
+    while so_far.next < orders.len() as u64 {
+        work_on(alloc, c, orders, so_far, gate)?;
+    }
+    Ok(())
 }

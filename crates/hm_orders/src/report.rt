@@ -1,6 +1,7 @@
 //! What became of the orders of a replay.
-ghost use Rattle.std.specs.Prelude.{◌≡◌};
+ghost use Rattle.std.specs.Prelude.{◌≡◌, [], ◌∷◌, ◌++◌, None, IfSome, OnOk, OnErr};
 
+use std::alloc::AllocError;
 use std::fmt;
 use std::marker::Model;
 
@@ -121,6 +122,24 @@ impl DoneList {
         ensures { result ≡ items.items }
     {
         DoneList { items }
+    }
+
+    /// Notes one more at the end, unless there is no memory.
+    pub fn push(&mut self, done: Done) -> Result<(), AllocError>
+        ensures noted { OnOk result (self.new ≡ self.old ++ done ∷ []) }
+        ensures unchanged { OnErr result (self.new ≡ self.old) }
+    {
+        self.items.push(done)?;
+        Ok(())
+    }
+
+    /// Takes the last away again.
+    pub fn pop(&mut self) -> Option<Done>
+        ensures none { result ≡ None → self.old ≡ [] }
+        ensures empty { result ≡ None → self.new ≡ [] }
+        ensures last { IfSome result (λ done. self.old ≡ self.new ++ done ∷ []) }
+    {
+        self.items.pop()
     }
 
     pub fn items(&self) -> &[Done]

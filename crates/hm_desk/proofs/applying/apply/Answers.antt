@@ -1,0 +1,58 @@
+-- The caller goes on from attempt to attempt.
+use Rattle.std.proofs.Common.{rules, refl, IfErr, ◌≡◌, ◌≤◌, ◌<◌, ◌∙◌, ◌+◌, ◌-◌, ℕ, Bool, arith, false, true, sym, subst, cond}
+use Rattle.hm_desk.specs.Stalling.{IfFull, WasFull}
+use Rattle.hm_desk.specs.Working.{book_stamp}
+use Rattle.hm_desk.proofs.Quiet.{full_earlier_err, on_names, on_none, on_then, stamp_goes, stamp_names}
+use Rattle.hm_desk.proofs.Coming.{work_names}
+use Rattle.hm_desk.proofs.applying.apply.Goals as goal
+
+pub loop-c-init : goal.loop-c-init
+loop-c-init g c = record { work = c.requires.work; goes = on_none _; same = refl }
+
+pub returns-in-Applied-clause-goes : goal.returns-in-Applied-clause-goes
+returns-in-Applied-clause-goes g c = on_then _ _ _ c.loop-c.invariant.goes c.attempt.ensures.goes
+
+pub returns-in-Memory-clause-goes : goal.returns-in-Memory-clause-goes
+returns-in-Memory-clause-goes g c = on_then _ _ _ c.loop-c.invariant.goes c.attempt.ensures.goes
+
+pub loop-c-preserved-in-Changed : goal.loop-c-preserved-in-Changed
+loop-c-preserved-in-Changed g c = record {
+  work = c.attempt.ensures.work;
+  goes = on_then _ _ _ c.loop-c.invariant.goes c.attempt.ensures.goes;
+  same = c.in-Changed.ensures.unchanged (λ e. absurd (cc)) ∙ c.loop-c.invariant.same;
+}
+
+pub loop-c-preserved : goal.loop-c-preserved
+loop-c-preserved g c = record {
+  work = work_names _ _ _ _ c.attempt.ensures.work c.meet_full.ensures.same;
+  goes = on_then _ _ _ (on_then _ _ _ c.loop-c.invariant.goes c.attempt.ensures.goes)
+      (on_names _ _ c.meet_full.ensures.same);
+  same = c.in-Full.ensures.unchanged (λ e. absurd (cc)) ∙ c.loop-c.invariant.same;
+}
+
+-- the measure falls where the caller has tended for room
+smaller : (most old new : ℕ) (was now : Bool) → old ≤ new → was ≡ false → now ≡ true
+    → (most - new) + cond now 0 1 < (most - old) + cond was 0 1
+smaller most old new false true rises first last = omega arith
+smaller most old new true now rises first last = absurd (cc)
+smaller most old new false false rises first last = absurd (cc)
+
+pub loop-c-smaller : goal.loop-c-smaller
+loop-c-smaller g c =
+    let rises = stamp_goes _ _ _ c.loop-c.invariant.work.desk c.attempt.ensures.work.desk c.attempt.ensures.goes.goes in
+    let same = stamp_names _ _ c.meet_full.ensures.same in
+    let once = c.in_ok-meet_full-in-Full.ensures.once in
+    smaller 18446744073709551615 _ _ _ _ (subst (λ (n : ℕ). book_stamp (g.C.Caller.sight c.loop-c.c) ≤ n) (sym same) rises)
+    once.0 once.1
+
+pub returns-in_err-meet_full-in-Full-clause-goes : goal.returns-in_err-meet_full-in-Full-clause-goes
+returns-in_err-meet_full-in-Full-clause-goes g c =
+    on_then _ _ _ (on_then _ _ _ c.loop-c.invariant.goes c.attempt.ensures.goes)
+    (on_names _ _ c.meet_full.ensures.same)
+
+pub returns-in_err-meet_full-in-Full-clause-full : goal.returns-in_err-meet_full-in-Full-clause-full
+returns-in_err-meet_full-in-Full-clause-full g c =
+    let then : IfErr c.from_residual.result (λ halted. IfFull halted (WasFull (g.C.Caller.sight c.attempt.new.c))) =
+    search rules in
+    full_earlier_err _ _ c.from_residual.result
+    (on_then _ _ _ c.loop-c.invariant.goes c.attempt.ensures.goes) then

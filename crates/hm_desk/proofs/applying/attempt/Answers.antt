@@ -1,0 +1,42 @@
+-- The fetch, the attempt and its conditional store, one after another.
+use Rattle.std.proofs.Common.{arith}
+use Rattle.hm_desk.proofs.Quiet.{on_then, quiet_on, quiet_then, stamp_goes}
+use Rattle.hm_desk.proofs.Coming.{work_quietly}
+use Rattle.hm_desk.proofs.Storing.{ready_next}
+use Rattle.hm_desk.proofs.applying.attempt.Goals as goal
+
+pub store-requires-clause-work : goal.store-requires-clause-work
+store-requires-clause-work g c =
+    work_quietly _ _ _ _ c.requires.work
+    (quiet_then _ _ _ c.fetch_book-at.ensures.quiet c.build.ensures.quiet) c.build.ensures.desk
+
+pub store-requires-clause-order : goal.store-requires-clause-order
+store-requires-clause-order g c =
+    ready_next _ _ _ _ c.requires.more c.in-Ok.ensures.ready
+
+pub store-requires-clause-stamp : goal.store-requires-clause-stamp
+store-requires-clause-stamp g c =
+    let q = c.build.ensures.quiet in
+    let rises = stamp_goes _ _ _ c.fetch_book-at.ensures.desk c.build.ensures.desk q.goes in
+    omega (arith, rises, c.fetch_book-at.ensures.now)
+
+pub returns-in-Ok-clause-goes : goal.returns-in-Ok-clause-goes
+returns-in-Ok-clause-goes g c =
+    on_then _ _ _ (quiet_on _ _ (quiet_then _ _ _ c.fetch_book-at.ensures.quiet c.build.ensures.quiet))
+    c.store.ensures.goes
+
+pub returns-in-Ok-clause-changed : goal.returns-in-Ok-clause-changed
+returns-in-Ok-clause-changed g c is =
+    let h = c.store.ensures.changed is in
+    let q = c.fetch_book-at.ensures.quiet in
+    let rises = stamp_goes _ _ _ c.requires.work.desk c.fetch_book-at.ensures.desk q.goes in
+    record { greater = omega (arith, h.greater, rises, c.fetch_book-at.ensures.now); fits = h.fits }
+
+pub returns-in-Err-clause-work : goal.returns-in-Err-clause-work
+returns-in-Err-clause-work g c =
+    work_quietly _ _ _ _ c.requires.work
+    (quiet_then _ _ _ c.fetch_book-at.ensures.quiet c.build.ensures.quiet) c.build.ensures.desk
+
+pub returns-in-Err-clause-goes : goal.returns-in-Err-clause-goes
+returns-in-Err-clause-goes g c =
+    quiet_on _ _ (quiet_then _ _ _ c.fetch_book-at.ensures.quiet c.build.ensures.quiet)

@@ -1,0 +1,15 @@
+-- What is applied is told, and no order is taken back.
+use Rattle.std.proofs.Common.{length, ◌-◌, ◌≡◌, ◌≤◌}
+use Rattle.hm_desk.specs.Working.{GoesOn, IsAtWork}
+use Rattle.hm_desk.proofs.desk.work_through.Given as goal
+
+abbrev pub invariant-loop-so_far : goal.invariant-loop-so_far
+invariant-loop-so_far g l = record {
+  work : IsAtWork (g.C.Caller.sight l.c) l.orders l.so_far;
+  goes : GoesOn (g.C.Caller.sight l.fn.c) (g.C.Caller.sight l.c);
+  settled : l.so_far.told ≡ l.so_far.next;
+  further : l.fn.so_far.next ≤ l.so_far.next;
+}
+
+abbrev pub decreases-loop-so_far : goal.decreases-loop-so_far
+decreases-loop-so_far g l = length l.orders - l.so_far.next

@@ -1,0 +1,9 @@
+-- So far the caller has tended alone, and each further tend leaves less to do.
+use Rattle.hm_model.specs.Tending.{KeepsNames}
+use Rattle.hm_desk.proofs.tending.make_room.Given as goal
+
+abbrev pub invariant-loop-moves : goal.invariant-loop-moves
+invariant-loop-moves g l = KeepsNames (g.C.Caller.sight l.fn.c) (g.C.Caller.sight l.c)
+
+abbrev pub decreases-loop-moves : goal.decreases-loop-moves
+decreases-loop-moves g l = (g.C.Caller.sight l.c).to_go
