@@ -1,18 +1,25 @@
 //! The words behind the program's name.
 ghost use Rattle.std.specs.Prelude.{◌≡◌, map, string_bytes};
 ghost use Rattle.std.specs.Option.{option_map};
-ghost use Rattle.hm_replay.specs.Words.{file_named, is_file_word, texts};
+ghost use Rattle.hm_replay.specs.Words.{are_file_words, files_named, is_file_word, texts};
 
-/// The file that the words name: they are `replay` and a word for a file.
-pub(crate) fn file_named(words: &[String]) -> Option<&str>
-    ensures { option_map (λ file. file.now) result ≡ file_named (texts words.now) }
+/// The files that the words name, at least one: they are `replay` and a word for each file.
+pub(crate) fn files_named(words: &[String]) -> Option<&[String]>
+    ensures { option_map (λ files. texts files.now) result ≡ files_named (texts words.now) }
 {
     match words {
-        [command, file] if command.as_str() == "replay" && is_file_word(file.as_str()) => {
-            Some(file.as_str())
+        [command, files @ ..] if command.as_str() == "replay" && are_file_words(files) => {
+            Some(files)
         }
         _ => None,
     }
+}
+
+/// Whether there are words, and each may name a file.
+fn are_file_words(words: &[String]) -> bool
+    ensures { result ≡ are_file_words (texts words.now) }
+{
+    !words.is_empty() && words.iter().all(|word| is_file_word(word.as_str()))
 }
 
 /// Whether a word may name a file: it is not empty and does not begin with `-`.
