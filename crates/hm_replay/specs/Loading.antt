@@ -1,5 +1,5 @@
 -- What is loaded from the files that the words name, and why loading them is refused.
-use Rattle.std.specs.Prelude.{◌≡◌, ℕ, ◌+◌, ◌<◌, ◌≤◌, List, All, length, Option, Some, IfSome, Ok, Err, option_and_then}
+use Rattle.std.specs.Prelude.{◌≡◌, ℕ, ◌<◌, ◌≤◌, List, All, length, Option, IfSome, Ok, Err, option_and_then}
 use Rattle.hm_orders.specs.declared.order.Order.{Order}
 use Rattle.hm_orders.specs.declared.order.Kind.TheVariants.{Limit}
 use Rattle.hm_orders.specs.declared.read.TextRefused.{TextRefused}

@@ -12,6 +12,8 @@ use Rattle.hm_orders.specs.declared.write.WriteRefused.TheVariants as report
 use Rattle.hm_orders.specs.declared.read.Part.{Part}
 use Rattle.hm_orders.specs.declared.read.Part.TheVariants.{Fields, Kind, Id, Side, Price, Quantity, TooMany}
 use Rattle.hm_orders.specs.ReportText.{AddsFront}
+use Rattle.hm_cellbook.specs.declared.attempt.AttemptRefused.{AttemptRefused}
+use Rattle.hm_cellbook.specs.declared.attempt.AttemptRefused.TheVariants as attempt
 use Rattle.hm_replay.specs.Words.{file_at}
 use Rattle.hm_replay.specs.declared.refusal.Refused.{Refused}
 use Rattle.hm_replay.specs.declared.refusal.Refused.TheVariants.{Memory, Words, Files, Text, Read, Write, Full, Long}
@@ -31,6 +33,11 @@ refused_text file text.Memory = Memory
 abbrev pub refused_write : WriteRefused → Refused
 refused_write report.Failed = Write
 refused_write report.Memory = Memory
+
+-- an attempt at an order that a caller gave up
+abbrev pub refused_attempt : ℕ → AttemptRefused → Refused
+refused_attempt caller attempt.Full = Full caller
+refused_attempt caller attempt.Memory = Memory
 
 -- the status with which a refusal ends the program
 abbrev pub status_of : Refused → ℕ
@@ -100,6 +107,17 @@ IsEarly (Read file) = Unit {0}
 IsEarly Write = ⊥
 IsEarly (Full caller) = ⊥
 IsEarly (Long file) = Unit {0}
+
+-- the refusals of the words alone: they name no file, or too many
+abbrev pub IsOfWords : Refused → Type 0
+IsOfWords Memory = ⊥
+IsOfWords Words = Unit {0}
+IsOfWords (Files count) = Unit {0}
+IsOfWords (Text file refusal) = ⊥
+IsOfWords (Read file) = ⊥
+IsOfWords Write = ⊥
+IsOfWords (Full caller) = ⊥
+IsOfWords (Long file) = ⊥
 
 -- the number of the file that could not be read, where that ended the program
 abbrev pub file_unread : Refused → Option ℕ

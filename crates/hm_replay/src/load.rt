@@ -6,7 +6,7 @@ ghost use Rattle.hm_orders.specs.Rows.{orders_held};
 ghost use Rattle.hm_replay.specs.Words.{file_at, files_named, texts};
 ghost use Rattle.hm_replay.specs.Loading.{AreHeld, AreOfFile, AreOfFiles, IsCause, bytes_at, most_files};
 ghost use Rattle.hm_replay.specs.Reading.{AreOrders, AreTexts, IsOfFirst, IsOrders, IsRefusedBy, IsText, IsUnread};
-ghost use Rattle.hm_replay.specs.Refusals.{IsEarly, grown_by, names_failed, unread_of};
+ghost use Rattle.hm_replay.specs.Refusals.{IsEarly, IsOfWords, grown_by, names_failed, unread_of};
 
 use crate::refusal::Refused;
 use crate::words::files_named;
@@ -36,6 +36,7 @@ pub(crate) fn load<S: Shelf>(
     ensures cause { IfErr result (λ refused. IfSome (files_named (texts words.now))
         (λ names. IsCause (S.told shelf.old) names refused)) }
     ensures early { IfErr result IsEarly }
+    ensures untouched { IfErr result (λ refused. IsOfWords refused → shelf.new ≡ shelf.old) }
     ensures read { IfSome (unread_of result)
         (λ _. Rose (S.faults shelf.old) (S.faults shelf.new)) }
     ensures unread { unread_of result ≡ None → S.faults shelf.new ≡ S.faults shelf.old }

@@ -1,13 +1,18 @@
 //! What can go wrong in a replay, and what is said of it.
 ghost use Rattle.std.specs.Prelude.{◌≡◌, ◌≤◌, ◌++◌, length, decimal};
 ghost use Rattle.hm_replay.specs.declared.refusal.Refused.TheVariants as variant;
-ghost use Rattle.hm_replay.specs.Refusals.{line_of, message_of, part_name, refused_shelf, refused_text, refused_write, status_of};
+ghost use Rattle.hm_replay.specs.Refusals.{line_of, message_of, part_name, refused_attempt, refused_shelf, refused_text, refused_write, status_of};
 
 use arrayvec::ArrayString;
+use hm_cellbook::AttemptRefused;
 use hm_edge::ShelfRefused;
 use hm_orders::{Part, ReadRefused, TextRefused, WriteRefused};
+use hm_plain::Memory;
 use itoa::Buffer;
 use std::alloc::{AllocError, AllocFailed};
+
+/// A line for a refusal, of which the longest have 50 bytes.
+pub type Line = ArrayString<64>;
 
 /// Why a replay ended without its whole report. Files are numbered from 1 in the order of the words.
 #[derive(Clone, Copy, Debug, PartialEq, Eq)]
@@ -38,6 +43,14 @@ impl From<WriteRefused> for Refused {
             WriteRefused::Failed => Refused::Write,
             WriteRefused::Memory => Refused::Memory,
         }
+    }
+}
+
+impl From<Memory> for Refused {
+    ghost from_gives = { λ _ refused. refused ≡ variant.Memory };
+
+    fn from(_refusal: Memory) -> Refused {
+        Refused::Memory
     }
 }
 
@@ -79,6 +92,16 @@ impl Refused {
         }
     }
 
+    /// The refusal of an attempt of this caller.
+    pub(crate) fn of_attempt(caller: u32, refusal: AttemptRefused) -> Refused
+        ensures { result ≡ refused_attempt caller refusal }
+    {
+        match refusal {
+            AttemptRefused::Full => Refused::Full { caller },
+            AttemptRefused::Memory => Refused::Memory,
+        }
+    }
+
     /// The status with which it ends the program.
     pub fn status(&self) -> u8
         ensures { result ≡ status_of self.now }
@@ -95,7 +118,7 @@ impl Refused {
     }
 
     /// The line that is written of it.
-    pub fn message(&self) -> ArrayString<64>
+    pub fn message(&self) -> Line
         ensures { result.bytes ≡ message_of self.now }
     {
         match self {
@@ -112,11 +135,11 @@ impl Refused {
 }
 
 /// The line with this word.
-fn plain_line(word: &str) -> ArrayString<64>
+fn plain_line(word: &str) -> Line
     requires { length word.now ≤ 6 }
     ensures { result.bytes ≡ line_of word.now }
 {
-    let mut line = ArrayString::new();
+    let mut line = Line::new();
     line.push_str("hm: ");
     line.push_str(word);
     line.push_str("\n");
@@ -124,12 +147,12 @@ fn plain_line(word: &str) -> ArrayString<64>
 }
 
 /// The line with this word, a space behind it included, and this number.
-fn numbered_line(word: &str, number: u64) -> ArrayString<64>
+fn numbered_line(word: &str, number: u64) -> Line
     requires { length word.now ≤ 6 }
     ensures { result.bytes ≡ line_of (word.now ++ decimal number) }
 {
     let mut digits = Buffer::new();
-    let mut line = ArrayString::new();
+    let mut line = Line::new();
     line.push_str("hm: ");
     line.push_str(word);
     line.push_str(digits.format(number));
@@ -138,11 +161,11 @@ fn numbered_line(word: &str, number: u64) -> ArrayString<64>
 }
 
 /// The line for a row of a file.
-fn text_line(file: u32, refusal: &TextRefused) -> ArrayString<64>
+fn text_line(file: u32, refusal: &TextRefused) -> Line
     ensures { result.bytes ≡ message_of (Refused.Text file refusal.now) }
 {
     let mut digits = Buffer::new();
-    let mut line = ArrayString::new();
+    let mut line = Line::new();
     line.push_str("hm: text ");
     line.push_str(digits.format(file));
     line.push_str(" ");
