@@ -12,7 +12,7 @@ use Rattle.hm_model.specs.declared.object.Field.TheVariants.{Number, Refer}
 use Rattle.hm_model.specs.declared.entry.Tried.TheVariants.{Stored, Changed}
 use Rattle.hm_model.specs.declared.entry.Entry.{Entry}
 use Rattle.hm_model.specs.declared.entry.Entry.TheVariants.{Create, Fetch, Store, StoreIf}
-use Rattle.hm_model.specs.Store.{Refs, Numbers, PlainStore, contents_of, with_changed}
+use Rattle.hm_model.specs.Store.{PlainStore, contents_of, with_changed}
 use Rattle.hm_model.specs.Effect.{caller_of, effect_of, new_contents, with_field, with_all}
 use Rattle.hm_model.specs.History.{store_after, store_of, opening_of, calls_of}
 use Rattle.hm_model.specs.Lawful.{MayCome, AllCome, IsLawful}
@@ -24,7 +24,7 @@ use Rattle.hm_agreement.specs.Agreed.{IsLawfulBook, IsAllowedBook}
 use Rattle.hm_agreement.specs.Spelled.{IsBookStart}
 use Rattle.hm_agreement.specs.Told.{told_after, last_told, number_in, told_on}
 use Rattle.hm_agreement.proofs.Agreeing.{board_other}
-use Rattle.hm_agreement.proofs.BookStart.{start_is, book_start}
+use Rattle.hm_agreement.proofs.BookStart.{opening_calls, start_is, book_start}
 
 -- the board of a store has ten numbers, of which one is that which was told
 pub record HasTold (s : PlainStore) (q told : ℕ) : Type 0 where
@@ -108,23 +108,13 @@ module _ (limits : Limits) (lengths : List ℕ) where
       ∙ fold-append told_after told (calls_of q (e ∷ [])) (calls_of q es)))
       (told_reached q (effect_of s e) es next within h.1 (told_entered q s e told within h.0 was))
 
-  -- nobody has told the board anything after two objects that caller 0 made
-  two_silent : (q : ℕ) (n m : Name) (refs more : Refs) (numbers others : Numbers)
-      → 0 ≡ last_told (calls_of q (Create 0 n refs numbers ∷ Create 0 m more others ∷ []))
-  two_silent q n m refs more numbers others = go (0 == q)
-    where
-      go : (b : Bool) → 0 ≡ last_told (cond b (Create 0 n refs numbers ∷ cond b (Create 0 m more others ∷ []) [])
-          (cond b (Create 0 m more others ∷ []) []))
-      go true = refl
-      go false = refl
-
-  -- nor after the opening
+  -- nobody has told the board anything after the opening
   opening_told : (q : ℕ) (start : Start) → q < 10 → IsBookStart start
       → HasTold (store_of (opening_of start)) q (last_told (calls_of q (opening_of start)))
   opening_told q start within begins =
       subst (λ (x : Start). HasTold (store_of (opening_of x)) q (last_told (calls_of q (opening_of x))))
       (sym (start_is start begins))
-      (subst (HasTold (store_of (opening_of book_start)) q) (two_silent q _ _ _ _ _ _) record {
+      (subst (HasTold (store_of (opening_of book_start)) q) (sym (opening_calls last_told 0 refl refl q)) record {
         board = new_contents (replicate 4 None) (replicate 10 0);
         there = refl;
         ten = refl;

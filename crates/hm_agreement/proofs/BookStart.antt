@@ -1,12 +1,14 @@
 -- A heap that starts with an empty book.
-use Rattle.std.proofs.Common.{◌≡◌, ◌<◌, ◌≤◌, false, [], ◌∷◌, Some, None, replicate, slice_index, refl, sym, ap, subst, arith}
+use Rattle.std.proofs.Common.{◌≡◌, ℕ, ◌<◌, ◌≤◌, ◌==◌, Bool, true, false, cond, List, [], ◌∷◌, Some, None, replicate, slice_index, refl, sym, ap, subst, arith}
 use Rattle.std.specs.List.{AllPairs}
 use Rattle.std.proofs.lemmas.List.Elements.{All-nil}
 use Rattle.hm_model.specs.declared.object.Contents.{Contents}
 use Rattle.hm_model.specs.declared.object.Start.{Start}
+use Rattle.hm_model.specs.declared.entry.Entry.{Entry}
+use Rattle.hm_model.specs.declared.entry.Entry.TheVariants.{Create}
 use Rattle.hm_model.specs.Store.{Numbers, PlainStore, contents_of}
 use Rattle.hm_model.specs.Effect.{new_contents}
-use Rattle.hm_model.specs.History.{store_of, common_name, opening_of}
+use Rattle.hm_model.specs.History.{store_of, calls_of, common_name, opening_of}
 use Rattle.hm_book.specs.declared.book.Resting.{Resting}
 use Rattle.hm_book.specs.Effect.{has_name}
 use Rattle.hm_book.specs.Run.{empty_state}
@@ -30,6 +32,22 @@ start_is start h = λ i. record { numbers = h.numbers i; sides = h.sides i }
 -- the opening spells no order
 pub spelled_opening : (start : Start) → IsBookStart start → spelled (opening_of start) ≡ []
 spelled_opening start h = ap (λ (x : Start). spelled (opening_of x)) (start_is start h)
+
+-- the entry that makes its board, and the one that makes its common object
+abbrev makes_board : Entry
+makes_board = Create 0 board_name (replicate 4 None) zeros
+
+abbrev makes_book : Entry
+makes_book = Create 0 book_name (None ∷ None ∷ None ∷ Some board_name ∷ []) zeros
+
+-- what comes of no entry and of the opening comes of any caller's calls in the opening
+pub opening_calls : {X : Type 0} (f : List Entry → X) (x : X) → f [] ≡ x → f (opening_of book_start) ≡ x → (q : ℕ)
+    → f (calls_of q (opening_of book_start)) ≡ x
+opening_calls f x none both q = go (0 == q)
+  where
+    go : (b : Bool) → f (cond b (makes_board ∷ cond b (makes_book ∷ []) []) (cond b (makes_book ∷ []) [])) ≡ x
+    go true = both
+    go false = none
 
 -- its common object has the book's name
 pub common_is : (start : Start) → IsBookStart start → common_name start ≡ book_name

@@ -18,7 +18,7 @@ use Rattle.hm_model.specs.Lawful.{MayCome, AllCome, IsLawful}
 use Rattle.hm_book.specs.declared.limits.Limits.{Limits}
 use Rattle.hm_agreement.specs.Agreed.{IsLawfulBook, IsAllowedBook}
 use Rattle.hm_agreement.specs.Spelled.{order_in, spelled, IsBookStart}
-use Rattle.hm_agreement.proofs.BookStart.{start_is, spelled_opening}
+use Rattle.hm_agreement.proofs.BookStart.{opening_calls, start_is, spelled_opening}
 use Rattle.hm_agreement.proofs.SpelledRun.{spelled-append}
 
 -- an entry that spells nothing spells nothing among the calls of any caller
@@ -40,15 +40,6 @@ speaks q e order one of =
   where
     go : (b : Bool) → cond b (order ∷ []) [] ≡ spelled (cond b (e ∷ []) [])
     go true = sym one
-    go false = refl
-
--- two objects that caller 0 makes spell nothing among the calls of any caller
-two_silent : (q : ℕ) (n m : Name) (refs more : Refs) (numbers others : Numbers)
-    → spelled (calls_of q (Create 0 n refs numbers ∷ Create 0 m more others ∷ [])) ≡ []
-two_silent q n m refs more numbers others = go (0 == q)
-  where
-    go : (b : Bool) → spelled (cond b (Create 0 n refs numbers ∷ cond b (Create 0 m more others ∷ []) []) (cond b (Create 0 m more others ∷ []) [])) ≡ []
-    go true = refl
     go false = refl
 
 -- the orders are of the first files
@@ -141,7 +132,7 @@ module _ (limits : Limits) (lengths : List ℕ) where
   opening_silent : (q : ℕ) (start : Start) → IsBookStart start → spelled (calls_of q (opening_of start)) ≡ []
   opening_silent q start begins =
       ap (λ (x : Start). spelled (calls_of q (opening_of x))) (start_is start begins)
-      ∙ two_silent q _ _ _ _ _ _
+      ∙ opening_calls spelled [] refl refl q
 
   -- of a lawful history the orders of a file are those that its caller spelled
   pub part_of_history : (q : ℕ) (start : Start) (history : List Entry) → IsBookStart start

@@ -1,11 +1,12 @@
 -- What became of orders, file by file.
-use Rattle.std.proofs.Common.{◌≡◌, ℕ, suc, ◌+◌, ◌==◌, Bool, true, false, cond, List, [], ◌∷◌, ◌++◌, map, length, Some, refl, sym, ap, ◌∙◌, subst, arith}
-use Rattle.std.specs.List.{slice_get, range_with_len, count_by}
-use Rattle.std.proofs.lemmas.List.Elements.{filter-append}
+use Rattle.std.proofs.Common.{◌≡◌, ◌<◌, ◌≤◌, ℕ, suc, ◌+◌, ◌==◌, Bool, true, false, cond, List, [], ◌∷◌, ◌++◌, map, length, Some, refl, sym, ap, ◌∙◌, subst, arith}
+use Rattle.std.specs.List.{All, AllPairs, slice_get, range_with_len, count_by}
+use Rattle.std.proofs.lemmas.List.Elements.{filter-append, All-nil, All-cons, All-head, All-tail, All-weaker}
+use Rattle.std.proofs.lemmas.List.Kept.{AllPairs-cons}
 use Rattle.std.proofs.lemmas.List.Sums.{length-filter}
 use Rattle.hm_orders.specs.declared.order.Order.{Order}
 use Rattle.hm_orders.specs.declared.report.Done.{Done}
-use Rattle.hm_orders.specs.Interleaving.{part_of, dones_part, Interleaves}
+use Rattle.hm_orders.specs.Interleaving.{part_of, dones_part, Interleaves, ArePartsOf}
 use Rattle.hm_book.specs.declared.limits.Limits.{Limits}
 use Rattle.hm_book.specs.Run.{BookState, done_of, state_after, dones_of, state_after_all, rows_by_file}
 
@@ -99,3 +100,40 @@ pub rows-interleaved : (files : List (List Order)) (orders : List Order) → Int
 rows-interleaved files orders h =
     counted_from orders 1 files
     (λ k file is. subst (λ (n : ℕ). part_of n orders ≡ file) (omega arith) (h.parts k file is))
+
+-- root numbers of what became of orders are those behind the orders applied before
+later_roots : (limits : Limits) (state : BookState) (orders : List Order)
+    → All (λ done. state.applied < done.root) (dones_of limits state orders)
+later_roots limits state [] = All-nil (λ (done : Done). state.applied < done.root)
+later_roots limits state (x ∷ xs) =
+    All-cons (λ (done : Done). state.applied < done.root) (done_of limits state x) _ (omega arith)
+    (All-weaker (λ (done : Done). state.applied + 1 < done.root) (λ (done : Done). state.applied < done.root)
+    (λ done h. omega (arith, h)) _ (later_roots limits (state_after limits state x) xs))
+
+-- they rise
+pub rising-dones_of : (limits : Limits) (state : BookState) (orders : List Order)
+    → AllPairs (λ a b. a.root < b.root) (dones_of limits state orders)
+rising-dones_of limits state [] = λ i j d below within. absurd (omega arith)
+rising-dones_of limits state (x ∷ xs) =
+    AllPairs-cons (λ (a b : Done). a.root < b.root) (done_of limits state x) _
+    (later_roots limits (state_after limits state x) xs) (rising-dones_of limits (state_after limits state x) xs)
+
+-- what holds of the file of each order holds of that of what became of it
+pub all_files-dones_of : (P : ℕ → Type 0) (limits : Limits) (state : BookState) (orders : List Order)
+    → All (λ order. P order.file) orders → All (λ done. P done.file) (dones_of limits state orders)
+all_files-dones_of P limits state [] all = All-nil (λ (done : Done). P done.file)
+all_files-dones_of P limits state (x ∷ xs) all =
+    All-cons (λ (done : Done). P done.file) (done_of limits state x) _
+    (All-head (λ (order : Order). P order.file) x xs all)
+    (all_files-dones_of P limits (state_after limits state x) xs (All-tail (λ (order : Order). P order.file) x xs all))
+
+-- lists that have what became of the orders of each file are the parts of what became of all orders
+pub parts-dones_of : (limits : Limits) (state : BookState) (orders : List Order) (lists : List (List Done))
+    → All (λ order. (0 < order.file) × (order.file ≤ length lists)) orders
+    → ((k : ℕ) (part : List Done) → slice_get lists k ≡ Some part → dones_part (k + 1) (dones_of limits state orders) ≡ part)
+    → ArePartsOf lists (dones_of limits state orders)
+parts-dones_of limits state orders lists within parts = record {
+  parts = parts;
+  others = all_files-dones_of (λ file. (0 < file) × (file ≤ length lists)) limits state orders within;
+  rising = rising-dones_of limits state orders;
+}

@@ -18,8 +18,8 @@ pub record Interleaves (files : List (List Order)) (orders : List Order) : Type 
       → part_of (k + 1) orders ≡ file
   pub others : All (λ order. (0 < order.file) × (order.file ≤ length files)) orders
 
--- lists are the parts of what became of orders where each list is the part of its file, whole and in
--- order, no order is of another file, and root numbers rise
+-- lists are the parts of what became of orders where each list is the part of its file, whole and
+-- in order, no order is of another file, and root numbers rise
 pub record ArePartsOf (lists : List (List Done)) (dones : List Done) : Type 0 where
   pub parts : (k : ℕ) (part : List Done) → slice_get lists k ≡ Some part
       → dones_part (k + 1) dones ≡ part
