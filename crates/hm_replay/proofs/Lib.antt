@@ -1,4 +1,9 @@
+pub mod Pushed
+pub mod Texts
+pub mod Held
 pub mod Files
 pub mod Whole
 pub mod Applied
 pub mod Telling
+pub mod Opened
+

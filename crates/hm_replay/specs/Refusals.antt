@@ -12,8 +12,6 @@ use Rattle.hm_orders.specs.declared.write.WriteRefused.TheVariants as report
 use Rattle.hm_orders.specs.declared.read.Part.{Part}
 use Rattle.hm_orders.specs.declared.read.Part.TheVariants.{Fields, Kind, Id, Side, Price, Quantity, TooMany}
 use Rattle.hm_orders.specs.ReportText.{AddsFront}
-use Rattle.hm_cellbook.specs.declared.attempt.AttemptRefused.{AttemptRefused}
-use Rattle.hm_cellbook.specs.declared.attempt.AttemptRefused.TheVariants as attempt
 use Rattle.hm_replay.specs.Words.{file_at}
 use Rattle.hm_replay.specs.declared.refusal.Refused.{Refused}
 use Rattle.hm_replay.specs.declared.refusal.Refused.TheVariants.{Memory, Words, Files, Text, Read, Write, Full, Long}
@@ -33,11 +31,6 @@ refused_text file text.Memory = Memory
 abbrev pub refused_write : WriteRefused → Refused
 refused_write report.Failed = Write
 refused_write report.Memory = Memory
-
--- an attempt at an order that a caller gave up
-abbrev pub refused_attempt : ℕ → AttemptRefused → Refused
-refused_attempt caller attempt.Full = Full caller
-refused_attempt caller attempt.Memory = Memory
 
 -- the status with which a refusal ends the program
 abbrev pub status_of : Refused → ℕ

@@ -1,13 +1,11 @@
 //! What can go wrong in a replay, and what is said of it.
 ghost use Rattle.std.specs.Prelude.{◌≡◌, ◌≤◌, ◌++◌, length, decimal};
 ghost use Rattle.hm_replay.specs.declared.refusal.Refused.TheVariants as variant;
-ghost use Rattle.hm_replay.specs.Refusals.{line_of, message_of, part_name, refused_attempt, refused_shelf, refused_text, refused_write, status_of};
+ghost use Rattle.hm_replay.specs.Refusals.{line_of, message_of, part_name, refused_shelf, refused_text, refused_write, status_of};
 
 use arrayvec::ArrayString;
-use hm_cellbook::AttemptRefused;
 use hm_edge::ShelfRefused;
 use hm_orders::{Part, ReadRefused, TextRefused, WriteRefused};
-use hm_plain::Memory;
 use itoa::Buffer;
 use std::alloc::{AllocError, AllocFailed};
 
@@ -46,14 +44,6 @@ impl From<WriteRefused> for Refused {
     }
 }
 
-impl From<Memory> for Refused {
-    ghost from_gives = { λ _ refused. refused ≡ variant.Memory };
-
-    fn from(_refusal: Memory) -> Refused {
-        Refused::Memory
-    }
-}
-
 impl From<AllocError> for Refused {
     ghost from_gives = { λ _ refused. refused ≡ variant.Memory };
 
@@ -89,16 +79,6 @@ impl Refused {
         match refusal {
             ReadRefused::Text(refusal) => Refused::Text { file, refusal },
             ReadRefused::Memory => Refused::Memory,
-        }
-    }
-
-    /// The refusal of an attempt of this caller.
-    pub(crate) fn of_attempt(caller: u32, refusal: AttemptRefused) -> Refused
-        ensures { result ≡ refused_attempt caller refusal }
-    {
-        match refusal {
-            AttemptRefused::Full => Refused::Full { caller },
-            AttemptRefused::Memory => Refused::Memory,
         }
     }
 

@@ -1,0 +1,80 @@
+-- A fresh heap with an empty book, and its passes.
+use Rattle.std.proofs.Common.{◌≡◌, ◌≢◌, ℕ, ◌+◌, ◌<◌, ◌≤◌, List, [], ◌∷◌, length, map, Some, slice_get, slice_index, get_or, refl, sym, ap, ◌∙◌, subst, arith}
+use Rattle.std.specs.List.{All}
+use Rattle.std.proofs.lemmas.Option.{slice_get_within, get_or_from_slice_get}
+use Rattle.std.proofs.lemmas.List.{get_or-map}
+use Rattle.hm_orders.specs.declared.order.Order.{Order}
+use Rattle.hm_orders.specs.Orders.{AreRowsOf}
+use Rattle.hm_model.specs.declared.object.Name.{Name}
+use Rattle.hm_model.specs.Sight.{Sight, HasHistory, IsFresh}
+use Rattle.hm_book.specs.Limits.{no_limits}
+use Rattle.hm_agreement.specs.Spelled.{IsBookStart}
+use Rattle.hm_agreement.proofs.BookStart.{common_is}
+use Rattle.hm_cellbook.specs.declared.usage.BookUsage.{BookUsage}
+use Rattle.hm_cellbook.specs.Fetched.{book_allowed, book_lawful}
+use Rattle.hm_moves.specs.declared.part.Site.{Site}
+use Rattle.hm_cells.specs.Closing.{AreAll}
+use Rattle.hm_cells.specs.Facts.{Facts, Made, sight_of}
+use Rattle.hm_desk.specs.Desk.{AreOwn, KeepsBook}
+use Rattle.hm_replay.specs.Loading.{AreOfFile, AreOfFiles}
+use Rattle.hm_replay.specs.Working.{AreReady, IsReady}
+use Rattle.hm_replay.proofs.Files.{of_file}
+
+-- a fresh caller keeps the empty book
+pub keeps_fresh : (c : Sight BookUsage) → IsFresh c → HasHistory book_lawful book_allowed c → IsBookStart c.start
+    → c.usage.limits ≡ no_limits → c.number < 8 → KeepsBook no_limits c
+keeps_fresh c fresh history start limits few = record {
+  start = start;
+  limits_are = limits;
+  number = few;
+  common = fresh.common ∙ ap (λ (n : Name). Some n) (common_is c.start start);
+  unset = fresh.unset;
+  history = history;
+}
+
+-- the orders of its file are its own
+pub own_file : (c : Sight BookUsage) (files : List (List Order)) (k : ℕ) (orders : List Order) → AreOfFiles files
+    → slice_get files k ≡ Some orders → c.number ≡ k → c.usage.lengths ≡ map length files → AreOwn c orders
+own_file c files k orders are is number lengths =
+    let file = of_file files are k orders is in
+    let within = slice_get_within files k orders is in
+    let long : slice_index c.usage.lengths c.number ≡ length orders =
+    (λ i. slice_index (lengths i) (number i))
+    ∙ (get_or-map (λ (l : List Order). length l) files k orders 0 within
+    ∙ ap (λ (l : List Order). length l) (get_or_from_slice_get files k orders orders is)) in
+    record {
+      rows = subst (λ (q : ℕ). AreRowsOf (q + 1) orders) (sym number) file.rows;
+      few = omega (arith, long);
+      limits = file.limits;
+    }
+
+module _ (m : Made BookUsage) (passes : List (Facts BookUsage)) (files : List (List Order)) (are : AreOfFiles files)
+    (all : AreAll m passes) (callers : m.site.shape.callers ≡ length files) (start : IsBookStart m.site.start)
+    (limits : m.site.usage.limits ≡ no_limits) (lengths : m.site.usage.lengths ≡ map length files)
+    (fresh : All (λ s. IsFresh (sight_of s)) passes)
+    (histories : All (λ s. HasHistory book_lawful book_allowed (sight_of s)) passes)
+    (span : All (λ s. (sight_of s).span ≡ 4096) passes) where
+  -- each pass of a fresh heap is ready for its file
+  pub ready : AreReady passes files
+  ready = record {
+    count = all.count ∙ callers;
+    each = λ k s orders is file.
+        let long = slice_get_within passes k s is in
+        let at : get_or passes k s ≡ s = get_or_from_slice_get passes k s s is in
+        let new : IsFresh (sight_of s) = subst (λ t. IsFresh (sight_of t)) at (fresh k s long) in
+        let lawful : HasHistory book_lawful book_allowed (sight_of s) =
+        subst (λ t. HasHistory book_lawful book_allowed (sight_of t)) at (histories k s long) in
+        let wide : (sight_of s).span ≡ 4096 = subst (λ t. (sight_of t).span ≡ 4096) at (span k s long) in
+        let site = (all.fits k s is).site in
+        let number = all.numbers k s is in
+        let within = slice_get_within files k orders file in
+        record {
+          keeps = keeps_fresh (sight_of s) new lawful
+              (subst IsBookStart (sym (ap (λ (g : Site BookUsage). g.start) site)) start)
+              (ap (λ (g : Site BookUsage). g.usage.limits) site ∙ limits) (omega (arith, number, within, are.few));
+          own = own_file (sight_of s) files k orders are file number
+              (ap (λ (g : Site BookUsage). g.usage.lengths) site ∙ lengths);
+          fresh = new;
+          span = wide;
+        };
+  }
