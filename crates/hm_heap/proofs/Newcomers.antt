@@ -1,19 +1,14 @@
 -- The passes of a fresh heap, one by one.
-use Rattle.std.proofs.Common.{◌≡◌, ◌⊎◌, ◌<◌, ◌≤◌, ◌+◌, ◌-◌, ℕ, zero, suc, Bool, true, false, cond, List, [], ◌∷◌, ◌++◌, length, get_or, Some, All, slice_get, refl, sym, ap, ◌∙◌, subst, arith, inl, inr, ⊎_elim, length-append}
+use Rattle.std.proofs.Common.{◌≡◌, ◌⊎◌, ◌<◌, ◌≤◌, ◌+◌, ◌-◌, ℕ, zero, suc, Bool, true, false, cond, [], ◌∷◌, length, get_or, Some, All, slice_get, refl, sym, ap, ◌∙◌, subst, arith, ⊎_elim, length-append}
 use Rattle.std.proofs.Math.ListN.{get_or-append}
 use Rattle.std.proofs.Math.Seq.{get_or-append_seam}
 use Rattle.std.proofs.lemmas.Option.{slice_get_within, get_or_from_slice_get}
 use Rattle.atomic_table.specs.Seated.{TableId}
-use Rattle.hm_model.specs.declared.entry.Entry.{Entry}
-use Rattle.hm_model.specs.Store.{PlainStore}
-use Rattle.hm_model.specs.History.{store_of, opening_of, starting_count, IsSizedStart}
-use Rattle.hm_model.specs.Sight.{HasHistory, IsFresh}
-use Rattle.hm_model.proofs.SightFacts.{has_history_fresh}
+use Rattle.hm_model.specs.History.{starting_count}
 use Rattle.hm_moves.specs.declared.part.Site.{Site}
 use Rattle.hm_cells.specs.Closing.{AreAll}
 use Rattle.hm_cells.specs.Facts.{Facts, sight_of}
 use Rattle.hm_cells.specs.Making.{first_used, fresh_pass, fresh_passes}
-use Rattle.hm_cells.proofs.Dealt.{all_fresh}
 
 module _ {U : Type 0} (z : TableId) (g : Site U) where
   -- there are as many as callers

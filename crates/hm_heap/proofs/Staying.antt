@@ -1,16 +1,15 @@
 -- A caller that stays the same caller of the same heap has a pass of that heap still.
-use Rattle.std.proofs.Common.{◌≡◌, ◌<◌, ℕ, List, length, get_or, drop, Some, slice_get, ap, ◌∙◌, arith}
+use Rattle.std.proofs.Common.{◌≡◌, ◌<◌, ℕ, List, length, get_or, drop, map, Some, slice_get, sym, ◌∙◌, subst, arith}
 use mathlib.Core.HLevel.{is_prop→PathP}
 use Rattle.std.proofs.Math.Nat.{ℕ_set}
 use Rattle.std.proofs.Math.Bridge.{le_prop}
 use Rattle.hm_shape.specs.Ranges.{IsWithin}
-use Rattle.std.proofs.lemmas.Option.{slice_get_within, slice_get-get_or}
-use Rattle.atomic_table.specs.Seated.{TableId}
-use Rattle.hm_moves.specs.declared.part.Site.{Site}
+use Rattle.std.proofs.lemmas.List.{get_or-map, length-map}
+use Rattle.std.proofs.lemmas.Option.{slice_get_within, slice_get-get_or, get_or_from_slice_get}
 use Rattle.hm_model.specs.Sight.{IsSameCaller}
 use Rattle.hm_cells.specs.Closing.{AreAll}
 use Rattle.hm_cells.specs.Facts.{Facts, Fits, Made, sight_of}
-use Rattle.hm_heap.specs.Mutators.{AreSameCallers}
+use Rattle.hm_heap.specs.Mutators.{AreSameCallers, Mutating}
 
 module _ {U : Type 0} where
   module _ (s t : Facts U) (same : IsSameCaller (sight_of s) (sight_of t)) where
@@ -71,3 +70,26 @@ module _ {U : Type 0} where
       numbers = λ k t there. let s = was k t there in
           (same.same k s.0 t s.1 there).number ∙ all.numbers k s.0 s.1;
     }
+
+  -- mutators whose callers stay the same have passes whose callers do
+  pub same_all : (old new : List (Mutating U)) → length new ≡ length old
+      → ((i : ℕ) (d : Mutating U) → i < length old
+      → IsSameCaller (sight_of (get_or old i d).pass) (sight_of (get_or new i d).pass))
+      → AreSameCallers (map (λ m. m.pass) old) (map (λ m. m.pass) new)
+  same_all old new wide each =
+      let pass : Mutating U → Facts U = λ m. m.pass in
+      record {
+        count = length-map new pass ∙ (wide ∙ sym (length-map old pass));
+        same = λ k s t was is.
+            let low : k < length old = let l = slice_get_within (map pass old) k s was in let w = length-map old pass in omega arith in
+            let d = some_mutator s in
+            let first : (get_or old k d).pass ≡ s =
+            sym (get_or-map pass old k d s low) ∙ get_or_from_slice_get (map pass old) k s s was in
+            let then : (get_or new k d).pass ≡ t =
+            sym (get_or-map pass new k d s (omega (arith, wide))) ∙ get_or_from_slice_get (map pass new) k t s is in
+            subst (λ (x : Facts U). IsSameCaller (sight_of x) (sight_of t)) first
+            (subst (λ (x : Facts U). IsSameCaller (sight_of (get_or old k d).pass) (sight_of x)) then (each k d low));
+      }
+    where
+      some_mutator : Facts U → Mutating U
+      some_mutator s = record { heap = record { table = s.cells; site = s.part.site }; pass = s }

@@ -1,7 +1,7 @@
-use Rattle.std.proofs.Common.{rules, ◌≡◌, ◌+◌, ℕ, List, All, sym, ap, ◌∙◌, subst}
+use Rattle.std.proofs.Common.{◌≡◌, ◌+◌, List, All, sym, ap, ◌∙◌, subst}
 use Rattle.hm_moves.specs.declared.part.Site.{Site}
 use Rattle.hm_cells.specs.Closing.{AreAll}
-use Rattle.hm_cells.specs.Facts.{Facts, Made, sight_of}
+use Rattle.hm_cells.specs.Facts.{Facts, sight_of}
 use Rattle.hm_cells.specs.Making.{first_used, fresh_passes}
 use Rattle.hm_heap.proofs.Newcomers.{all_there, all_used, all_room}
 use Rattle.hm_heap.proofs.heap.Heap.make.Goals as goal

@@ -1,8 +1,6 @@
-use Rattle.std.proofs.Common.{◌≡◌, sym, ap, ◌∙◌, subst}
+use Rattle.std.proofs.Common.{sym, ap, ◌∙◌}
 use Rattle.hm_model.specs.declared.worker.Tended.{Tended}
-use Rattle.hm_model.specs.declared.worker.Tended.TheVariants.{Nothing}
-use Rattle.hm_model.specs.Tending.{ComesNearer, KeepsNames, moves_after}
-use Rattle.hm_cells.specs.Facts.{sight_of}
+use Rattle.hm_model.specs.Tending.{moves_after}
 use Rattle.hm_heap.specs.Mutators.{Mutating}
 use Rattle.hm_heap.proofs.Counting.{keeps_names, nothing_nearer}
 use Rattle.hm_heap.proofs.mutator.MutatorWorker.TheImpl.Goals as goal
