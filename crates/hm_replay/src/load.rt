@@ -1,17 +1,16 @@
 //! From the words to the orders of the files that they name.
-ghost use Rattle.std.specs.Prelude.{◌≡◌, ℕ, ◌≤◌, ◌<◌, ◌↔◌, List, map, length, None, Some, Ok, Err, IfOk, IfErr, IfSome, OnOk, string_bytes};
+ghost use Rattle.std.specs.Prelude.{◌≡◌, ℕ, ◌≤◌, ◌<◌, ◌↔◌, List, map, length, None, Some, Err, IfOk, IfErr, IfSome};
 ghost use Rattle.std.specs.Option.{option_map};
 ghost use Rattle.hm_edge.specs.Faults.{Rose};
-ghost use Rattle.hm_orders.specs.Rows.{orders_held};
 ghost use Rattle.hm_replay.specs.Words.{file_at, files_named, texts};
-ghost use Rattle.hm_replay.specs.Loading.{AreHeld, AreOfFile, AreOfFiles, IsCause, bytes_at, most_files};
+ghost use Rattle.hm_replay.specs.Loading.{AreHeld, AreOfFiles, IsCause, most_files};
 ghost use Rattle.hm_replay.specs.Reading.{AreOrders, AreTexts, IsOfFirst, IsOrders, IsRefusedBy, IsText, IsUnread};
 ghost use Rattle.hm_replay.specs.Refusals.{IsEarly, IsOfWords, grown_by, names_failed, unread_of};
 
 use crate::refusal::Refused;
 use crate::words::files_named;
 use hm_edge::Shelf;
-use hm_orders::{Kind, Order, read_orders};
+use hm_orders::{Order, read_orders};
 use std::alloc::Global;
 
 /// How many files may be replayed together.
