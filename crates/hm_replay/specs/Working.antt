@@ -40,6 +40,11 @@ pub record AreReady (passes : List (Facts BookUsage)) (files : List (List Order)
   pub each : (k : ℕ) (s : Facts BookUsage) (orders : List Order) → slice_get passes k ≡ Some s
       → slice_get files k ≡ Some orders → IsReady s orders
 
+-- jobs have each a pass and the orders of its file, at the same place
+abbrev pub AreJobs : List (Facts BookUsage) → List (List Order) → List Working → Type 0
+AreJobs passes files jobs = (k : ℕ) (job : Working) → slice_get jobs k ≡ Some job
+    → (slice_get passes k ≡ Some job.pass) × (slice_get files k ≡ Some job.orders)
+
 -- each caller has come to something with the orders of its file, from where its pass was on
 pub record HaveWorked (before after : List (Facts BookUsage)) (files : List (List Order))
     (came : List Came) : Type 0 where
