@@ -7,3 +7,5 @@ pub mod Applied
 pub mod Telling
 pub mod Opened
 
+pub mod Jobs
+pub mod Ended

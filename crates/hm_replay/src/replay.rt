@@ -1,12 +1,12 @@
 //! From the orders of several files to their report.
-ghost use Rattle.std.specs.Prelude.{◌≡◌, ◌<◌, ◌≤◌, [], vec_capacity, All, IfOk, IfErr, IfSome, IsSome, List, map, length, Some, None, Err};
+ghost use Rattle.std.specs.Prelude.{◌≡◌, ◌<◌, ◌≤◌, [], vec_capacity, slice_index_or, ℕ, All, IfOk, IfErr, IfSome, IsSome, List, map, length, Some, None, Err};
 ghost use Rattle.hm_orders.specs.declared.order.Order.{Order};
 ghost use Rattle.hm_cells.specs.Closing.{AreAll};
 ghost use Rattle.hm_cells.specs.Facts.{IsAtRest};
 ghost use Rattle.hm_replay.specs.Loading.{AreOfFiles};
 ghost use Rattle.hm_replay.specs.Headline.{IsBookHeap, IsReplay};
 ghost use Rattle.hm_replay.specs.Concluding.{IfFull, TellsAll, WasFullAt};
-ghost use Rattle.hm_replay.specs.Working.{AreJobs, AreReady, HaveWorked, IsAtWork};
+ghost use Rattle.hm_replay.specs.Working.{AreJobs, AreReady, HaveWorked, IsAtWork, Working, Works};
 
 use crate::conclusion::{Came, Stopped, conclude};
 use crate::job::Job;
@@ -54,11 +54,16 @@ pub(crate) fn replay<R: Threads + Sync, G: Gate + Sync>(
     };
     let (passes, came) = work_all(rt, alloc, &heap, passes, files.as_slice(), gate);
     let closed = Some(close(heap, passes));
-    let ended = match came {
-        Some(came) => conclude(alloc, came),
-        None => Err(Stopped::Memory),
-    };
-    Replayed { closed, ended }
+    match came {
+        Some(came) => Replayed {
+            closed,
+            ended: conclude(alloc, came),
+        },
+        None => Replayed {
+            closed,
+            ended: Err(Stopped::Memory),
+        },
+    }
 }
 
 /// A heap with an empty book, and its passes, one for each file.
@@ -119,15 +124,30 @@ fn work_all<R: Threads + Sync, G: Gate + Sync>(
         return (passes, None);
     };
     let mut jobs = jobs_of(alloc, heap, passes, files, jobs);
+    work_side_by_side(rt, alloc, jobs.as_mut_slice(), gate);
+    let (back, came) = ends_of(jobs, back, came);
+    (back, Some(came))
+}
+
+/// Lets the callers of all jobs work, on as many threads as there are callers.
+fn work_side_by_side<R: Threads + Sync, G: Gate + Sync>(
+    rt: &R,
+    alloc: Global,
+    jobs: &mut [Job<'_>],
+    gate: &G,
+)
+    requires { 0 < length jobs.old }
+    ensures count { length jobs.new ≡ length jobs.old }
+    ensures works { (k : ℕ) (d : Working) → k < length jobs.old
+        → Works (slice_index_or jobs.old k d) (slice_index_or jobs.new k d) }
+{
     let desk = Desk::new(Limits::NONE);
     thread::for_each_mut(
         rt,
-        jobs.as_mut_slice(),
-        count,
+        jobs,
+        jobs.len(),
         &|_, job| job.work(alloc, &desk, gate),
     );
-    let (back, came) = ends_of(jobs, back, came);
-    (back, Some(came))
 }
 
 /// A job for each pass, in the same order, with the orders of its file. There is room for all of them.
@@ -162,9 +182,9 @@ fn ends_of(
     requires none { (passes.items ≡ []) × (came.items ≡ []) }
     requires room { length jobs.items ≤ vec_capacity passes }
     requires more { length jobs.items ≤ vec_capacity came }
-    ensures passes { result.0.items ≡ map (λ job. job.pass) jobs.items }
-    ensures came { result.1.items ≡ map (λ job. job.came) jobs.items }
-    ensures at_work { All IsAtWork jobs.items }
+    ensures passes { result.0.items ≡ map (λ job. job.pass) jobs.entry.items }
+    ensures came { result.1.items ≡ map (λ job. job.came) jobs.entry.items }
+    ensures at_work { All IsAtWork jobs.entry.items }
 {
     for job in jobs {
         let (pass, ended) = job.end();
