@@ -5,3 +5,4 @@ pub mod Attempting
 pub mod Storing
 pub mod Ending
 pub mod Fresh
+pub mod Hindering
