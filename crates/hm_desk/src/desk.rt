@@ -87,6 +87,8 @@ impl Desk {
         ensures told { result ≡ Worked.Finished → so_far.new.told ≡ so_far.new.next }
         ensures stalled { IfStalled result (λ at used free. (at ≡ so_far.new.next)
             × WasFull (C.sight c.old) used free) }
+        ensures tends { (C.sight c.old).tends + so_far.new.next
+            ≤ (C.sight c.new).tends + so_far.old.next }
         ensures hindered { IfStalled result (λ at used free. so_far.new.next ≡ so_far.old.next
             → IsHindered 0 orders.now so_far.old.next (C.sight c.old) (C.sight c.new)) }
     {
@@ -123,6 +125,8 @@ fn work_on<C: Worker<BookUsage>, G: Gate>(
     ensures next { OnOk result (so_far.new.next ≡ so_far.old.next + 1) }
     ensures told { OnOk result (so_far.new.told ≡ so_far.new.next) }
     ensures full { IfErr result (λ halt. IfFull halt (WasFull (C.sight c.old))) }
+    ensures tends { (C.sight c.old).tends + so_far.new.next
+        ≤ (C.sight c.new).tends + so_far.old.next }
     ensures hindered { IfErr result (λ halt. IfFull halt (λ used free.
         so_far.new.next ≡ so_far.old.next
         → IsHindered 1 orders.now so_far.old.next (C.sight c.old) (C.sight c.new))) }
@@ -151,6 +155,8 @@ fn work_through<C: Worker<BookUsage>, G: Gate>(
     ensures next { OnOk result (so_far.new.next ≡ length orders.now) }
     ensures told { OnOk result (so_far.new.told ≡ so_far.new.next) }
     ensures full { IfErr result (λ halt. IfFull halt (WasFull (C.sight c.old))) }
+    ensures tends { (C.sight c.old).tends + so_far.new.next
+        ≤ (C.sight c.new).tends + so_far.old.next }
     ensures hindered { IfErr result (λ halt. IfFull halt (λ used free.
         so_far.new.next ≡ so_far.old.next
         → IsHindered 0 orders.now so_far.old.next (C.sight c.old) (C.sight c.new))) }

@@ -10,7 +10,7 @@ use Rattle.hm_desk.proofs.Hindering.{hindered_from, hindered_goes, hindered_same
 use Rattle.hm_desk.proofs.applying.apply.Goals as goal
 
 pub loop-c-init : goal.loop-c-init
-loop-c-init g c = record { work = c.requires.work; goes = on_none _; same = refl; start = inl refl }
+loop-c-init g c = record { work = c.requires.work; goes = on_none _; same = refl; tends = omega arith; start = inl refl }
 
 pub returns-in-Applied-clause-goes : goal.returns-in-Applied-clause-goes
 returns-in-Applied-clause-goes g c = on_then _ _ _ c.loop-c.invariant.goes c.attempt.ensures.goes
@@ -23,6 +23,7 @@ loop-c-preserved-in-Changed g c = record {
   work = c.attempt.ensures.work;
   goes = on_then _ _ _ c.loop-c.invariant.goes c.attempt.ensures.goes;
   same = c.in-Changed.ensures.unchanged (λ e. absurd (cc)) ∙ c.loop-c.invariant.same;
+  tends = omega (arith, c.loop-c.invariant.tends, c.attempt.ensures.tends);
   start = inr (hindered_from _ _ _ _ _ c.loop-c.invariant.start c.attempt.ensures.goes
       (overtaken (c.in-Changed.ensures.overtaken refl)));
 }
@@ -33,6 +34,7 @@ loop-c-preserved g c = record {
   goes = on_then _ _ _ (on_then _ _ _ c.loop-c.invariant.goes c.attempt.ensures.goes)
       (on_names _ _ c.meet_full.ensures.same);
   same = c.in-Full.ensures.unchanged (λ e. absurd (cc)) ∙ c.loop-c.invariant.same;
+  tends = omega (arith, c.loop-c.invariant.tends, c.attempt.ensures.tends, c.meet_full.ensures.tends);
   start = inr (hindered_goes _ _ _ _ _ _
       (hindered_from _ _ _ _ _ c.loop-c.invariant.start c.attempt.ensures.goes
       (hindered_same _ _ _ _ _ _ (ap (λ (p : Progress). p.next) c.loop-c.invariant.same)

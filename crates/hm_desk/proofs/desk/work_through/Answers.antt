@@ -12,6 +12,7 @@ loop-so_far-preserved g c = record {
   goes = on_then _ _ _ c.loop-so_far.invariant.goes c.work_on.ensures.goes;
   settled = c.in_ok-work_on.ensures.told;
   further = omega (arith, c.work_on.ensures.further, c.loop-so_far.invariant.further);
+  tends = omega (arith, c.loop-so_far.invariant.tends, c.work_on.ensures.tends);
   start = λ is. absurd (omega (arith, c.in_ok-work_on.ensures.next, c.loop-so_far.invariant.further, is));
 }
 
