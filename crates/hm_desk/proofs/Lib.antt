@@ -4,3 +4,5 @@ pub mod Coming
 pub mod Attempting
 pub mod Storing
 pub mod Ending
+pub mod Fresh
+pub mod Hindering
