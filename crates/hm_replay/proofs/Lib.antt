@@ -9,3 +9,4 @@ pub mod Opened
 
 pub mod Jobs
 pub mod Ended
+pub mod Told
