@@ -10,3 +10,4 @@ pub mod Opened
 pub mod Jobs
 pub mod Ended
 pub mod Told
+pub mod Outcomes

@@ -77,25 +77,34 @@ fn replay_files<R: Threads + Sync, S: Shelf, K: Sink, G: Gate + Sync>(
         }
     };
     let Replayed { closed, ended } = replay(rt, alloc, files, gate);
-    match ended {
-        Ok(report) => Ended {
+    let report = match ended {
+        Ok(report) => report,
+        Err(Stopped::Full(at)) => {
+            return Ended {
+                closed,
+                full: Some(at),
+                result: Err(Refused::Full { caller: at.caller }),
+            };
+        }
+        Err(Stopped::Memory) => {
+            return Ended {
+                closed,
+                full: None,
+                result: Err(Refused::Memory),
+            };
+        }
+    };
+    if let Err(refused) = write_report(alloc, &report, out) {
+        return Ended {
             closed,
             full: None,
-            result: match write_report(alloc, &report, out) {
-                Ok(()) => Ok(()),
-                Err(refused) => Err(Refused::from(refused)),
-            },
-        },
-        Err(Stopped::Full(at)) => Ended {
-            closed,
-            full: Some(at),
-            result: Err(Refused::Full { caller: at.caller }),
-        },
-        Err(Stopped::Memory) => Ended {
-            closed,
-            full: None,
-            result: Err(Refused::Memory),
-        },
+            result: Err(Refused::from(refused)),
+        };
+    }
+    Ended {
+        closed,
+        full: None,
+        result: Ok(()),
     }
 }
 
