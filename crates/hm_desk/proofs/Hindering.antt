@@ -10,6 +10,7 @@ use Rattle.hm_model.specs.declared.entry.Entry.TheVariants.{Fetch, StoreIf}
 use Rattle.hm_model.specs.declared.root.Snapshot.{Snapshot}
 use Rattle.hm_model.specs.Sight.{Sight, IsSameCaller}
 use Rattle.hm_agreement.specs.Cells.{book_name}
+use Rattle.hm_agreement.specs.Told.{last_told}
 use Rattle.hm_cellbook.specs.declared.usage.BookUsage.{BookUsage}
 use Rattle.hm_cellbook.specs.Fetched.{fetched_contents}
 use Rattle.hm_cellbook.proofs.Fetching.{has_book_goes}
@@ -33,6 +34,7 @@ hindered_goes spare orders next c d f (dear h) on = dear record {
   is_next = h.is_next;
   before = h.before;
   first = h.first;
+  told = h.told;
   answer = h.answer;
   after = h.after ++ on.own;
   mine = on.goes.mine ∙ (ap (λ (l : List Entry). l ++ on.own) h.mine
@@ -63,9 +65,9 @@ hindered_goes spare orders next c d f (overtaken h) on =
 
 -- an attempt that found no room was dear, or its caller copied
 pub attempt_dear : (orders : List Order) (next : ℕ) (order : Order) (c d f : Sight BookUsage) (at : Snapshot)
-    → slice_get orders next ≡ Some order → GoesQuietly c d → FetchesBook c d at → GoesQuietly d f
+    → slice_get orders next ≡ Some order → last_told c.mine ≡ next → GoesQuietly c d → FetchesBook c d at → GoesQuietly d f
     → TakesCost d f at order → f.room ≡ 0 → IsHindered 1 orders next c f
-attempt_dear orders next order c d f at is first fetches then takes empty = go c.copying refl
+attempt_dear orders next order c d f at is told first fetches then takes empty = go c.copying refl
   where
     go : (b : Bool) → c.copying ≡ b → IsHindered 1 orders next c f
     go true copies = copied copies
@@ -80,6 +82,7 @@ attempt_dear orders next order c d f at is first fetches then takes empty = go c
           is_next = is;
           before = [];
           first = All-nil AttemptsNothing;
+          told = ap last_told (append-nil c.mine) ∙ told;
           answer = fetched_contents d at;
           after = then.own;
           mine = then.goes.mine ∙ (ap (λ (l : List Entry). l ++ then.own) fetches.mine
@@ -171,6 +174,8 @@ settled_hindered orders next c d f same s (dear h) = go c.copying refl
           is_next = h.is_next;
           before = s.few.own ++ h.before;
           first = All-append AttemptsNothing s.few.own h.before s.few.nothing h.first;
+          told = ap last_told (sym (append_assoc c.mine s.few.own h.before)
+              ∙ ap (λ (l : List Entry). l ++ h.before) (sym s.few.mine)) ∙ h.told;
           answer = h.answer;
           after = h.after;
           mine = h.mine ∙ (ap (λ (l : List Entry). l ++ (h.before ++ start d.number ∷ h.after)) s.few.mine

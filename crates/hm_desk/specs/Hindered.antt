@@ -12,6 +12,7 @@ use Rattle.hm_book.specs.declared.book.Resting.{Resting}
 use Rattle.hm_book.specs.Run.{BookState, next_effect}
 use Rattle.hm_agreement.specs.Cells.{book_name}
 use Rattle.hm_agreement.specs.Agreed.{HasBook}
+use Rattle.hm_agreement.specs.Told.{last_told}
 use Rattle.hm_cellbook.specs.declared.usage.BookUsage.{BookUsage}
 use Rattle.hm_cellbook.specs.Cost.{cost}
 use Rattle.hm_cellbook.specs.Fetched.{fetched_contents}
@@ -34,14 +35,16 @@ abbrev pub cost_on : Sight BookUsage → Order → Contents → List Resting →
 cost_on c order common book =
     cost (length (next_effect c.usage.limits (state_in common book) order).fills) (length book)
 
--- the next order was dear where a Fetch of the common object, before which nothing was attempted,
--- found a book on which the order costs more than the caller's room and so many versions
+-- the next order was dear where a Fetch of the common object, before which nothing was attempted and
+-- the board was told all, found a book on which the order costs more than the caller's room and so
+-- many versions
 pub record WasDear (spare : ℕ) (orders : List Order) (next : ℕ) (c d : Sight BookUsage)
     : Type 0 where
   pub order : Order
   pub is_next : slice_get orders next ≡ Some order
   pub before : List Entry
   pub first : All AttemptsNothing before
+  pub told : last_told (c.mine ++ before) ≡ next
   pub answer : Contents
   pub after : List Entry
   pub mine : d.mine ≡ c.mine ++ (before ++ Fetch c.number book_name answer ∷ after)

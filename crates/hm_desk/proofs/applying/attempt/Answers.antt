@@ -51,7 +51,7 @@ returns-in-Ok-clause-hindered g c is =
     let same = c.store.ensures.same is in
     let empty : (g.C.Caller.sight c.build.new.c).room ≡ 0 = sym (ap (λ (x : Sight BookUsage). x.room) same) ∙ c.store.ensures.full is in
     subst (λ (x : Sight BookUsage). IsHindered 1 c.args.orders.now c.args.so_far.now.next (g.C.Caller.sight c.args.c.now) x) (sym same)
-    (attempt_dear _ _ _ _ _ _ _ (next_is _ _ _ c.requires.more) c.fetch_book-at.ensures.quiet c.fetch_book-at.ensures.entry
+    (attempt_dear _ _ _ _ _ _ _ (next_is _ _ _ c.requires.more) (sym c.requires.work.come.told ∙ c.requires.settled) c.fetch_book-at.ensures.quiet c.fetch_book-at.ensures.entry
     c.build.ensures.quiet c.build.ensures.takes empty)
 
 pub returns-in-Ok-clause-overtaken : goal.returns-in-Ok-clause-overtaken
@@ -63,7 +63,7 @@ returns-in-Ok-clause-overtaken g c is =
 
 pub returns-in-Err-clause-hindered : goal.returns-in-Err-clause-hindered
 returns-in-Err-clause-hindered g c is =
-    attempt_dear _ _ _ _ _ _ _ (next_is _ _ _ c.requires.more) c.fetch_book-at.ensures.quiet c.fetch_book-at.ensures.entry
+    attempt_dear _ _ _ _ _ _ _ (next_is _ _ _ c.requires.more) (sym c.requires.work.come.told ∙ c.requires.settled) c.fetch_book-at.ensures.quiet c.fetch_book-at.ensures.entry
     c.build.ensures.quiet c.build.ensures.takes
     (refused_full c.in-Err.refused _ (λ e. c.build.ensures.full (c.in-Err.is ∙ ap (λ (x : AttemptRefused). Err x) e))
     (sym c.from.ensures ∙ is))

@@ -3,7 +3,7 @@ use Rattle.std.proofs.Common.{subst}
 use Rattle.hm_desk.specs.Desk.{AdmitAll}
 use Rattle.hm_desk.proofs.Quiet.{quiet_on, quiet_rests}
 use Rattle.hm_desk.proofs.Hindering.{hindered_goes}
-use Rattle.hm_desk.proofs.Ending.{work_begins}
+use Rattle.hm_desk.proofs.Beginning.{work_begins}
 use Rattle.hm_desk.proofs.desk.Desk.work.Goals as goal
 
 pub work_through-ended-requires : goal.work_through-ended-requires
