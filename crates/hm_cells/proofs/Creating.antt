@@ -1,6 +1,6 @@
 -- A pass that writes the words of its next version, one after another.
-use Rattle.std.proofs.Common.{◌≡◌, ◌<◌, ◌≤◌, ◌+◌, ℕ, ◌++◌, length, Option, is_some, refl, sym, ap, ◌∙◌, subst, arith, inl, inr, append-nil, unwrap_or}
-use Rattle.hm_cells.proofs.Words.{ℕ_discrete, dite, Entry, PlainStore, Known, Looks, Builds, StoreOwn, HasRoom, IsWritten, Facts, Fits, IsAtRest, IsSound, Made, IsWhole, Takes, taken}
+use Rattle.std.proofs.Common.{◌≡◌, ◌<◌, ◌≤◌, ◌+◌, ℕ, ◌++◌, length, Option, refl, sym, ap, ◌∙◌, subst, arith, inl, inr, append-nil}
+use Rattle.hm_cells.proofs.Words.{ℕ_discrete, dite, Entry, PlainStore, Known, Builds, StoreOwn, HasRoom, IsWritten, Facts, Fits, IsAtRest, IsSound, Made, Takes, taken}
 use Rattle.hm_moves.specs.declared.moving.Act.{Act}
 use Rattle.hm_cells.proofs.Stepped.{held_few, written_here, written_stays}
 

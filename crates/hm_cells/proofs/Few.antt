@@ -1,5 +1,5 @@
 -- Few versions are held, since one that is not named is let go.
-use Rattle.std.proofs.Common.{◌≡◌, ◌⊎◌, ◌≤◌, ◌+◌, ◌||◌, ℕ, zero, suc, Bool, true, false, true≢false, cond, not, filter, eq-eqb, ne_eqb, eqb-true, List, [], ◌∷◌, ◌++◌, length, map, Option, Some, None, IfSome, Contains, unwrap_or, if◌then◌else◌, refl, sym, ap, ◌∙◌, subst, arith, inl, inr, length-append}
+use Rattle.std.proofs.Common.{◌≡◌, ◌⊎◌, ◌≤◌, ◌+◌, ℕ, zero, suc, Bool, true, false, true≢false, not, filter, eq-eqb, ne_eqb, List, [], ◌∷◌, ◌++◌, length, map, Option, Some, None, IfSome, Contains, unwrap_or, refl, sym, ap, ◌∙◌, arith, inl, inr, length-append}
 use Rattle.hm_cells.proofs.Words.{Contains-append_left, Contains-append_right, contains_behind, contains_first, contains_here, filter_still, common_steps, ◌==◌, list_any, option_map, length-map, Version, Known, Looks, Builds, StoreOwn, Publish, LinkStore, is_version, without, with_held, publishes, Found, IsLink, AreApart, first_idle, is_kept}
 use Rattle.hm_moves.specs.declared.moving.Act.{Act}
 use Rattle.hm_cells.proofs.Found.{any_none, find_none, held_after}

@@ -1,6 +1,6 @@
 -- The acts that load words, and what they take into the hand.
 use Rattle.std.proofs.Common.{◌≡◌, ◌⊎◌, ◌<◌, ◌≤◌, ◌+◌, ◌-◌, ◌*◌, ◌^◌, ℕ, suc, Bool, true, false, eqb-true, Option, Some, None, IfSome, if◌then◌else◌, refl, sym, ap, ◌∙◌, arith, nat_lt, inl, inr}
-use Rattle.hm_cells.proofs.Words.{◌==◌, option_to_list, Shape, Version, version_count, word_at, naming_word, Name, Entry, Known, Part, Look, Looks, Builds, LoadStamp, LoadReference, LoadNumber, LoadLink, IsFit, word_of, becomes, publishes, field_look, HasHand, MayHold, MayLookInto, MayTake, MayLook, Found, IsReference, IsLink, LookFound, taken, version_in}
+use Rattle.hm_cells.proofs.Words.{◌==◌, option_to_list, Shape, Version, version_count, word_at, naming_word, Name, Entry, Known, Part, Look, Looks, LoadStamp, LoadReference, LoadNumber, LoadLink, IsFit, word_of, field_look, HasHand, MayHold, MayLookInto, MayLook, Found, IsReference, IsLink, LookFound, taken, version_in}
 use Rattle.std.proofs.lemmas.Nat.{mul-le}
 use Rattle.std.proofs.lemmas.Bool.Decides.{nat_tests}
 

@@ -1,6 +1,6 @@
 -- Held versions by their numbers, and which of them stay held.
-use Rattle.std.proofs.Common.{◌≡◌, ◌≢◌, ◌⊎◌, ◌||◌, ℕ, zero, suc, Bool, true, false, true≢false, cond, not, filter, eq-eqb, ne_eqb, eqb-true, List, [], ◌∷◌, ◌++◌, get_or, map, Option, Some, None, IsSome, IfSome, is_some, Contains, All, if◌then◌else◌, refl, sym, ap, ◌∙◌, arith, ⊎_elim}
-use Rattle.hm_cells.proofs.Words.{each_some, contains_behind, contains_first, contains_here, eqb_tells, common_steps, ◌==◌, find, list_any, option_map, find-append, list_any-append, Version, Known, is_version, without, with_held, find_version, IsAmong, place_name, is_kept, first_idle, AreApart, unwrap_or, Begins}
+use Rattle.std.proofs.Common.{◌≡◌, ◌≢◌, ◌⊎◌, ℕ, zero, suc, Bool, true, false, cond, not, filter, eq-eqb, ne_eqb, eqb-true, List, [], ◌∷◌, ◌++◌, get_or, map, Option, Some, None, IsSome, IfSome, Contains, All, refl, sym, ap, ◌∙◌, arith, ⊎_elim}
+use Rattle.hm_cells.proofs.Words.{each_some, contains_behind, contains_first, contains_here, eqb_tells, common_steps, ◌==◌, find, list_any, option_map, find-append, list_any-append, Version, Known, is_version, without, with_held, find_version, IsAmong, place_name, is_kept, first_idle, AreApart, unwrap_or}
 
 module _ {X : Type 0} where
   -- an element that a list has at a place

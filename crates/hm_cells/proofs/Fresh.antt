@@ -1,8 +1,7 @@
 -- The passes of a fresh heap.
 use Rattle.std.proofs.Common.{◌≡◌, ◌≢◌, ◌⊎◌, ◌<◌, ◌≤◌, ◌+◌, ◌*◌, ℕ, zero, suc, Bool, true, false, cond, is_some, eqb, eq-eqb, ne_eqb, List, [], ◌∷◌, ◌++◌, length, get_or, replicate, set, Option, Some, None, IfSome, All, refl, sym, ap, ◌∙◌, subst, arith, ⊎_elim, length-set, length-append}
-use Rattle.hm_cells.proofs.Words.{side_count, slice_get, some, get_elem?, length-replicate, All-set, All-replicate, TableId, Me, Seat, Version, version_at, Start, Entry, Numbers, PlainStore, opening_of, starting_count, IsSizedStart, Known, Site, Part, all_known}
-use Rattle.hm_cells.proofs.Words.{common_known, fresh_part, side_known, Knowledge, Gripped, IsAmong, IsSound, IsSure, IsSeated, caller_in, facts_of, knowledge, first_roots, first_used, fresh_pass, newcomer, many, numbered, numbered_at}
-use Rattle.std.proofs.lemmas.List.Sums.{sum_by-cons}
+use Rattle.hm_cells.proofs.Words.{side_count, slice_get, some, get_elem?, length-replicate, All-set, All-replicate, TableId, Me, Seat, Version, version_at, Start, Entry, PlainStore, opening_of, starting_count, IsSizedStart, Known, Site, Part, all_known}
+use Rattle.hm_cells.proofs.Words.{common_known, fresh_part, Knowledge, Gripped, IsAmong, IsSound, IsSure, IsSeated, caller_in, facts_of, knowledge, first_roots, first_used, fresh_pass, newcomer, many, numbered, numbered_at}
 use Rattle.hm_cells.specs.Shows.{to_first}
 use Rattle.hm_cells.proofs.Found.{there_found}
 

@@ -1,7 +1,7 @@
 -- What a move of a good machine tells the caller that makes it.
-use Rattle.std.proofs.Common.{◌≡◌, ℕ, Bool, true, false, List, [], ◌∷◌, ◌++◌, slice_index, slice_set, Option, Some, None, IfSome, Contains, if◌then◌else◌, eqb-true, refl, sym, ap, subst, ◌+◌}
-use Rattle.hm_cells.proofs.Words.{each_some, from_some, list_any, Any-from_list_any, Contains-push, some, get_elem?, Name, Entry, PlainStore, IsThere, Stands, store_of, UsageLaws, Known, Site, Part, View, Move, Index, IsPublished, word_of, publishes, finds, next_version, index_with, is_version, without}
-use Rattle.hm_cells.proofs.Words.{with_held, part_after, view_after, Enabled, HasRoom, IsLawfulMove, Begins, PartIsGood, Core, Good, Carries, applied, Found, others_only, published_once, held_stays, set_here, good_step, enabled_lawful, Knowledge, Learnt, knowledge}
+use Rattle.std.proofs.Common.{◌≡◌, ℕ, Bool, true, false, List, [], ◌∷◌, ◌++◌, slice_index, Option, Some, None, IfSome, Contains, if◌then◌else◌, eqb-true, refl, sym, ap, subst, ◌+◌}
+use Rattle.hm_cells.proofs.Words.{each_some, from_some, list_any, Any-from_list_any, Contains-push, Name, Entry, PlainStore, IsThere, Stands, store_of, UsageLaws, Known, Site, Part, View, Move, Index, IsPublished, word_of, publishes, finds, next_version, index_with, is_version, without}
+use Rattle.hm_cells.proofs.Words.{with_held, part_after, view_after, Enabled, HasRoom, IsLawfulMove, Begins, PartIsGood, Core, Good, Carries, applied, Found, others_only, published_once, held_stays, set_here, good_step, enabled_lawful, Knowledge, Learnt}
 use Rattle.hm_moves.proofs.Finding.{entry_by, found_now, fresh_now, next_now, index_more, index_here}
 use Rattle.hm_cells.proofs.Sure.{sure_of}
 

@@ -1,7 +1,7 @@
 -- When a pass may exchange a link for its next version, and what that leaves.
-use Rattle.std.proofs.Common.{◌≡◌, ◌≤◌, ◌+◌, ◌^◌, ℕ, zero, suc, Bool, ne_eqb, List, [], ◌∷◌, ◌++◌, Option, Some, None, IfSome, Contains, if◌then◌else◌, refl, sym, ap, ◌∙◌, subst, arith, inl}
-use Rattle.hm_cells.proofs.Words.{◌==◌, option_to_list, length-map, Seat, Shape, Version, IsAt, word_at, naming_word, Root, Entry, PlainStore, MayEnter, name_of, Known, Looks, Builds, LinkStore, IsFit, IsKnownField, IsKnownName, Turns, HasHand, HasRoom, done_seen, MayMake, becomes, publishes, next_version, count_of, part_after}
-use Rattle.hm_cells.proofs.Words.{IsLink, Knowledge, Want, Nothing, Fetch, Store, StoreIf, Gripped, Facts, Fits, Made, IsLookable, known_at, sight_of, IsWholeCopy, MayChange, MayStore, field_of, linked, move_by, stored, taken, turned, Exchanges, IsReady, IsSeated, Learns, facts_of, some_move, Takes, some_more}
+use Rattle.std.proofs.Common.{◌≡◌, ◌≤◌, ◌+◌, ◌^◌, ℕ, zero, suc, Bool, ne_eqb, [], ◌∷◌, ◌++◌, Option, Some, None, IfSome, Contains, if◌then◌else◌, refl, sym, ap, ◌∙◌, subst, arith, inl}
+use Rattle.hm_cells.proofs.Words.{◌==◌, option_to_list, length-map, Seat, Shape, Version, word_at, naming_word, Root, Entry, PlainStore, MayEnter, name_of, Known, Builds, LinkStore, IsFit, IsKnownField, IsKnownName, Turns, HasHand, HasRoom, done_seen, becomes, publishes, next_version, count_of, part_after}
+use Rattle.hm_cells.proofs.Words.{IsLink, Knowledge, Want, Nothing, Fetch, Store, StoreIf, Gripped, Facts, Fits, Made, IsLookable, known_at, sight_of, IsWholeCopy, MayChange, MayStore, field_of, linked, move_by, stored, taken, turned, Exchanges, IsReady, IsSeated, Learns, facts_of, Takes, some_more}
 use Rattle.hm_moves.specs.declared.moving.Act.{Act}
 use Rattle.hm_cells.specs.declared.want.WantField.{WantField}
 use Rattle.hm_cells.specs.declared.want.WantField.TheVariants.{Number, Refer}

@@ -1,7 +1,7 @@
 -- When a pass may load a word, and what its load leaves.
 use Rattle.std.proofs.Common.{◌≡◌, ◌≢◌, ◌⊎◌, ◌<◌, ◌≤◌, ◌+◌, ◌^◌, ◌++◌, ℕ, Option, Some, None, IfSome, Contains, refl, sym, ap, ◌∙◌, subst, arith}
-use Rattle.hm_cells.proofs.Words.{option_to_list, Seat, Shape, Version, IsVersionOf, word_at, naming_word, Entry, PlainStore, Known, Site, Look, Looks, Builds, LoadLink, IsFit, IsKnownName, Reads, HasHand, done_seen, MayMake, count_of}
-use Rattle.hm_cells.proofs.Words.{part_after, publishes, field_look, Knowledge, Gripped, Facts, Fits, Made, IsLookable, known_at, move_by, taken, version_in, IsReady, IsSeated, Learns, Loads, facts_of, some_move, Takes, some_more}
+use Rattle.hm_cells.proofs.Words.{option_to_list, Seat, Shape, Version, IsVersionOf, word_at, naming_word, Entry, PlainStore, Known, Site, Look, Looks, LoadLink, IsFit, IsKnownName, Reads, HasHand, done_seen, MayMake}
+use Rattle.hm_cells.proofs.Words.{part_after, field_look, Knowledge, Gripped, Facts, Fits, Made, IsLookable, known_at, move_by, version_in, IsReady, IsSeated, Learns, Loads, facts_of, Takes, some_more}
 use Rattle.hm_cells.proofs.Fields.{take_field, hold_field, place_field, hand_field, hand_link, small_link, named_in}
 use Rattle.hm_cells.proofs.Moved.{moved}
 use Rattle.hm_cells.proofs.Ready.{known_look, look_fit, look_version, ready}

@@ -1,5 +1,5 @@
 -- A pass whose seat took a move, as what its call leaves.
-use Rattle.std.proofs.Common.{◌≡◌, ◌⊎◌, ◌<◌, ◌+◌, ℕ, zero, suc, List, [], ◌∷◌, ◌++◌, length, get_or, map, slice_set, Option, Some, None, IfSome, Contains, All, is_some, refl, sym, ap, ◌∙◌, subst, arith, inl, inr, ⊎_elim, append-nil, length-append}
+use Rattle.std.proofs.Common.{◌≡◌, ◌⊎◌, ◌<◌, ◌+◌, ℕ, zero, suc, List, [], ◌∷◌, ◌++◌, length, get_or, map, Option, Some, None, IfSome, Contains, All, is_some, refl, sym, ap, ◌∙◌, subst, arith, inl, inr, ⊎_elim, append-nil, length-append}
 use Rattle.hm_cells.proofs.Words.{slice_get, option_to_list, All-append, All-contains_itself, Seat, Shape, Version, version_at, Entry, PlainStore, Known, Part, Site, set_here, some, some-injective, some-ne-none, get_elem?, entry_of, publishes, listed}
 use Rattle.hm_cells.proofs.Words.{next_version, count_of, part_after, Knowledge, Gripped, Facts, IsAmong, IsSure, IsSound, find_version, names_at, sight_of, Takes, Tells, after, move_by, taken, IsSeated, Learnt, Learns, caller_in, facts_of}
 use Rattle.hm_moves.specs.declared.moving.Act.{Act}

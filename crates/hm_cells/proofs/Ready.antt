@@ -1,5 +1,5 @@
 -- When a pass may take a move, and what it knows of a version.
-use Rattle.std.proofs.Common.{◌≡◌, ℕ, not, List, Option, Some, None, IfSome, Contains, unwrap_or, refl, sym, ap, ◌∙◌, subst}
+use Rattle.std.proofs.Common.{◌≡◌, ℕ, not, List, Option, IfSome, Contains, unwrap_or, sym, ap, ◌∙◌, subst}
 use Rattle.hm_cells.proofs.Words.{each_some, Contains-append_cases, Seat, Shape, Version, IsVersionOf, Entry, PlainStore, Known, Part, IsFit, IsKnownName, MayHold, MayLookInto, MayTake, done_seen, MayMake, Knowledge, Gripped, Facts, Fits, Made, IsSound, IsLookable, first_idle, is_kept, known_at, lookable, nothing_known, move_by, IsReady, IsSeated, facts_of}
 use Rattle.hm_moves.specs.declared.moving.Act.{Act}
 use Rattle.hm_cells.proofs.Found.{among, find_passes, found_there}

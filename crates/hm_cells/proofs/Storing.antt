@@ -1,8 +1,7 @@
 -- When a pass may store a word of its next version, and what that leaves.
 use Rattle.std.proofs.Common.{◌≡◌, ◌<◌, ◌≤◌, ◌+◌, ℕ, zero, suc, true, [], ◌∷◌, ◌++◌, get_or, Option, Some, None, IsSome, IfSome, Contains, unwrap_or, refl, sym, ap, ◌∙◌, subst, arith, inl, ⊎_elim, append-nil}
-use Rattle.hm_cells.proofs.Words.{slice_index, option_map, option_to_list, Seat, Shape, Version, IsAt, version_at, word_at, naming_word, Name, Entry, PlainStore, Known, Site, Part, Looks, Builds, StoreOwn, Publish, reference_at, IsFirst, IsKnownName, IsWritten, Names, Spells, HasHand, HasRoom, next_name, MayMake}
+use Rattle.hm_cells.proofs.Words.{slice_index, option_map, option_to_list, Seat, Shape, Version, word_at, naming_word, Name, Entry, PlainStore, Known, Site, Part, Builds, StoreOwn, Publish, reference_at, IsFirst, IsKnownName, IsWritten, Names, Spells, HasHand, HasRoom, next_name}
 use Rattle.hm_cells.proofs.Words.{is_naming, next_version, Knowledge, Gripped, Facts, Fits, Made, IsSound, find_version, place_name, IsWhole, MayPublish, drafted, drafted_name, drafted_numbers, drafted_refs, drafted_word, move_by, taken, version_in, IsReady, IsSeated, Learns, Stores, facts_of, Takes}
-use Rattle.hm_model.specs.declared.entry.Entry.TheVariants.{Create}
 use Rattle.hm_cells.proofs.Fields.{naming_in}
 use Rattle.hm_cells.proofs.Found.{there_is}
 use Rattle.hm_cells.proofs.Moved.{moved}

@@ -1,5 +1,5 @@
 -- In a good machine each caller is sure of itself, also after it lets go of a version.
-use Rattle.std.proofs.Common.{◌≡◌, ℕ, List, Option, Contains, inl, inr, ⊎_elim, sym, subst, arith, ◌∙◌}
+use Rattle.std.proofs.Common.{ℕ, List, Option, Contains, inl, inr, ⊎_elim, sym, subst, arith, ◌∙◌}
 use Rattle.hm_cells.proofs.Words.{Entry, PlainStore, Known, Site, Part, View, IsPublished, row_of, letting, without, MayLookInto, Core, Good, Carries, names_without, unnamed_was, unnamed_wide, without_held, lawful_before, published_once, rank_small, IsSure}
 use Rattle.hm_moves.proofs.Heaps.{look_published}
 

@@ -20,7 +20,7 @@ use Rattle.hm_moves.specs.declared.part.Part.{Part}
 use Rattle.hm_moves.specs.declared.moving.Act.{Act}
 use Rattle.hm_moves.specs.declared.moving.Move.{Move}
 use Rattle.hm_moves.specs.Acts.{entry_of, publishes, listed, next_version}
-use Rattle.hm_moves.specs.After.{part_after, seen_after, unnamed, without, letting}
+use Rattle.hm_moves.specs.After.{part_after, seen_after, letting}
 use Rattle.hm_moves.specs.Allowed.{next_name, IsWritten, IsBuilt, AreWrittenFrom}
 use Rattle.hm_moves.specs.Told.{Found}
 use Rattle.hm_moves.specs.Good.{longer}

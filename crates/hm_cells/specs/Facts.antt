@@ -18,7 +18,7 @@ use Rattle.hm_moves.specs.declared.part.Known.{Known}
 use Rattle.hm_moves.specs.declared.part.Site.{Site}
 use Rattle.hm_moves.specs.declared.part.Part.{Part}
 use Rattle.hm_moves.specs.Places.{IsFit}
-use Rattle.hm_moves.specs.After.{is_naming, is_version}
+use Rattle.hm_moves.specs.After.{is_naming}
 use Rattle.hm_moves.specs.Allowed.{IsWritten, Names, MayLookInto, done_seen}
 use Rattle.hm_moves.specs.Good.{AreApart, Begins}
 

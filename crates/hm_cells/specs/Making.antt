@@ -1,18 +1,15 @@
 -- Fresh cells and their passes.
-use Rattle.std.specs.Prelude.{◌≡◌, ℕ, zero, suc, ◌+◌, ◌==◌, List, [], ◌∷◌, ◌++◌, length, Option, Some, None, if◌then◌else◌, replicate, slice_set}
+use Rattle.std.specs.Prelude.{ℕ, zero, suc, ◌==◌, List, [], ◌∷◌, ◌++◌, Option, Some, None, if◌then◌else◌, replicate, slice_set}
 use Rattle.atomic_table.specs.Seated.{TableId}
 use Rattle.hm_shape.specs.declared.shape.Shape.{Shape}
 use Rattle.hm_shape.specs.declared.version.Version.{Version}
-use Rattle.hm_shape.specs.Words.{word_count}
 use Rattle.hm_model.specs.declared.object.Start.{Start}
-use Rattle.hm_model.specs.Store.{Numbers}
-use Rattle.hm_model.specs.History.{opening_of, starting_count, IsSizedStart}
+use Rattle.hm_model.specs.History.{opening_of, starting_count}
 use Rattle.hm_moves.specs.declared.part.Site.{Site}
 use Rattle.hm_moves.specs.declared.part.Part.{Part}
 use Rattle.hm_moves.specs.declared.part.View.{View}
-use Rattle.hm_moves.specs.Chain.{IsPublished, AreTrue, link_of}
 use Rattle.hm_moves.specs.After.{view}
-use Rattle.hm_moves.specs.Fresh.{common_known, fresh_index, fresh_part}
+use Rattle.hm_moves.specs.Fresh.{common_known, fresh_part}
 use Rattle.hm_cells.specs.Facts.{Facts}
 use Rattle.hm_moves.specs.FirstWords.{AreFirst}
 

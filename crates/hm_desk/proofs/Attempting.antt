@@ -1,16 +1,18 @@
 -- What an attempt builds is ready to be stored.
-use Rattle.std.proofs.Common.{◌≡◌, ⊎_elim, ℕ, ◌+◌, ◌<◌, ◌≤◌, List, ◌++◌, Result, Ok, Err, IfOk, OnErr, length, sym, ap, ◌∙◌, subst, arith, slice_index}
+use Rattle.std.proofs.Common.{◌≡◌, ⊎_elim, ℕ, ◌+◌, ◌<◌, ◌≤◌, List, ◌++◌, Result, Ok, Err, IfOk, OnErr, length, sym, ap, ◌∙◌, subst, arith, slice_index, [], ◌∷◌, Some}
 use Rattle.std.proofs.lemmas.Bool.{cases_lt}
 use Rattle.hm_orders.specs.declared.order.Order.{Order}
 use Rattle.hm_model.specs.declared.object.Contents.{Contents}
 use Rattle.hm_model.specs.declared.entry.Entry.{Entry}
 use Rattle.hm_model.specs.declared.root.Snapshot.{Snapshot}
+use Rattle.hm_model.specs.declared.root.Root.{Root}
+use Rattle.hm_model.specs.declared.entry.Entry.TheVariants.{Fetch}
 use Rattle.hm_model.specs.Store.{PlainStore, contents_of}
 use Rattle.hm_model.specs.History.{store_after}
 use Rattle.hm_model.specs.Lawful.{AllCome, KeepsNodes}
-use Rattle.hm_model.specs.Sight.{Sight, AreSet, name_at, present}
+use Rattle.hm_model.specs.Sight.{AreSet, IsUntended, Sight, name_at, present, root_of}
 use Rattle.hm_model.specs.Building.{Builds}
-use Rattle.hm_model.specs.Calls.{MayStoreIf}
+use Rattle.hm_model.specs.Calls.{FetchesAll, MayStoreIf}
 use Rattle.hm_model.proofs.HistoryFacts.{same_stamp, store_after-append}
 use Rattle.hm_model.proofs.SightFacts.{present-goes}
 use Rattle.hm_model.proofs.Nodes.{keeps_nodes_after, keeps_nodes_goes, keeps_nodes_then}
@@ -27,6 +29,8 @@ use Rattle.hm_cellbook.specs.declared.attempt.AttemptRefused.{AttemptRefused}
 use Rattle.hm_cellbook.specs.Fetched.{WasFetched, book_allowed, book_lawful, book_node, fetched_contents}
 use Rattle.hm_cellbook.specs.Attempted.{Applies, LeavesPlaces, TellsOrder, state_at}
 use Rattle.hm_cellbook.proofs.Fetching.{fetched_book, fetched_stamp, node_laws, read_store}
+use Rattle.hm_cellbook.proofs.Attempts.{was_fetched}
+use Rattle.hm_desk.specs.Hindered.{FetchesBook}
 use Rattle.hm_desk.specs.Working.{IsAtDesk, IsReady, TellsState, stamp_in}
 
 -- whatever an attempt answers, places 0 to 3 and those from 17 on name what they named
@@ -103,3 +107,22 @@ module _ (c d : Sight BookUsage) (at : Snapshot) (w : WasFetched c at) (most : �
     tells = tells_there a applies;
   }
   build_ready (Err e) file applies tells set allowed = tt
+
+-- the caller's entry is the Fetch of what was fetched
+pub fetch_entry : (c d : Sight BookUsage) (from hand : Root) (at : Snapshot) → from.0 ≡ 0 → hand.0 ≡ 4
+    → root_of c from ≡ Some book_name → IsUntended c d → FetchesAll book_lawful book_allowed c d from hand at
+    → FetchesBook c d at
+fetch_entry c d from hand at first four names untended h =
+    let w : WasFetched d at = was_fetched c d from hand at first four names h in
+    let r = read_store d at w in
+    let name : h.fetch.name ≡ book_name = let place = h.fetch.place in cc in
+    let now : contents_of (present d) book_name ≡ Some h.answer = let held = h.fetch.now in cc in
+    let same : h.answer ≡ fetched_contents d at =
+    same_stamp r.store r.later book_name (fetched_contents d at) h.answer r.there
+    (ap (λ (s : PlainStore). contents_of s book_name) (sym r.now) ∙ now)
+    (ap (λ (s : Snapshot). s.stamp) (sym h.value)) in
+    record {
+      mine = h.fetch.entry.mine ∙ (λ i. c.mine ++ Fetch c.number (name i) (same i) ∷ []);
+      copying = untended.copying;
+      room = h.fetch.room.kept;
+    }

@@ -3,4 +3,6 @@ pub mod Quiet
 pub mod Coming
 pub mod Attempting
 pub mod Storing
-pub mod Ending
+pub mod Beginning
+pub mod Fresh
+pub mod Hindering

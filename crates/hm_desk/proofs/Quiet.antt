@@ -33,7 +33,7 @@ use Rattle.hm_desk.specs.Desk.{AdmitAll, AreOwn}
 use Rattle.hm_desk.specs.Working.{GoesOn, GoesQuietly, IsAtDesk, book_stamp, stamp_in}
 
 -- a create or a fetch spells no order
-spells_nothing : (own : List Entry) → All IsBuilding own → spelled own ≡ []
+pub spells_nothing : (own : List Entry) → All IsBuilding own → spelled own ≡ []
 spells_nothing [] h = refl
 spells_nothing (Create q m refs numbers ∷ own) h = spells_nothing own (All-tail IsBuilding _ own h)
 spells_nothing (Fetch q m answer ∷ own) h = spells_nothing own (All-tail IsBuilding _ own h)
@@ -41,7 +41,7 @@ spells_nothing (Store q m field ∷ own) h = absurd (All-head IsBuilding _ own h
 spells_nothing (StoreIf q m stamp refs numbers answer ∷ own) h = absurd (All-head IsBuilding _ own h)
 
 -- and tells nothing
-tells_nothing : (own : List Entry) → All IsBuilding own → (n : ℕ) → fold told_after n own ≡ n
+pub tells_nothing : (own : List Entry) → All IsBuilding own → (n : ℕ) → fold told_after n own ≡ n
 tells_nothing [] h n = refl
 tells_nothing (Create q m refs numbers ∷ own) h n = tells_nothing own (All-tail IsBuilding _ own h) n
 tells_nothing (Fetch q m answer ∷ own) h n = tells_nothing own (All-tail IsBuilding _ own h) n

@@ -39,6 +39,7 @@ use Rattle.hm_cellbook.specs.Fetched.{book_allowed, book_lawful}
 use Rattle.hm_desk.specs.declared.applying.Tried.TheVariants as tried
 use Rattle.hm_desk.specs.declared.progress.Progress.{Progress}
 use Rattle.hm_desk.specs.Progress.{HasCome, dones_seen, last_root, state_seen}
+use Rattle.hm_desk.specs.Hindered.{FindsGreater}
 use Rattle.hm_desk.specs.Working.{GoesQuietly, IsAtDesk, IsAtWork, IsChanged, IsReady, TellsState, book_stamp, stamp_in, tried_to_store}
 use Rattle.hm_desk.proofs.Quiet.{desk_goes, own_goes, quiet_rests, stamp_goes}
 use Rattle.hm_desk.proofs.Coming.{applied_all, come_told, last_root-append}
@@ -134,6 +135,30 @@ pub changed_refused : (c d : Sight BookUsage) (at : Root) (stamp : ℕ) (refs : 
 changed_refused c d at stamp refs numbers refusal.Full zero h k le fits found is = absurd (cc)
 changed_refused c d at stamp refs numbers (refusal.Changed now) zero h k le fits found is =
     changed_found c d at stamp now refs numbers zero h k le fits found
+
+-- its entry tells the greater stamp
+pub greater_refused : (c d : Sight BookUsage) (at : Root) (stamp : ℕ) (refs : Places) (numbers : Numbers)
+    (e : StoreIfRefused) → at.0 ≡ 0 → IsAtDesk c → IsAtDesk d → stamp ≤ book_stamp c
+    → IfChanged e (FindsChanged book_lawful book_allowed c d at stamp refs numbers)
+    → tried_to_store e ≡ tried.Changed → FindsGreater c d stamp
+greater_refused c d at stamp refs numbers refusal.Full zero h k le found is = absurd (cc)
+greater_refused c d at stamp refs numbers (refusal.Changed now) zero h k le found is =
+    let names : root_of c at ≡ Some book_name = rw zero h.common in
+    let same : found.name ≡ book_name = let place = found.place in cc in
+    let there : contents_of (present d) book_name ≡ Some found.answer =
+    subst (λ (n : Name). contents_of (present d) n ≡ Some found.answer) same found.now in
+    let now_is : book_stamp d ≡ now = ap stamp_in there ∙ found.has_stamp in
+    let rises : book_stamp c ≤ book_stamp d =
+    stamp_goes c d _ h k (goes_enters book_lawful book_allowed c d _ found.entry) in
+    let other : now ≢ stamp = found.other in
+    record {
+      refs = names_of c refs;
+      numbers = numbers;
+      found = now;
+      mine = found.entry.mine
+          ∙ ap (λ (n : Name). c.mine ++ StoreIf c.number n stamp (names_of c refs) numbers (Changed now) ∷ []) same;
+      above = omega arith;
+    }
 
 -- what became of an order was noted
 pub pushed : {E : Type 0} (r : Result (Unit {0}) E) (P : Type 0) → is_err r ≡ false → OnOk r P → P

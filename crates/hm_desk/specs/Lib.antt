@@ -2,3 +2,4 @@ pub mod Desk
 pub mod Progress
 pub mod Stalling
 pub mod Working
+pub mod Hindered

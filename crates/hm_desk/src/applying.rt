@@ -6,6 +6,7 @@ ghost use Rattle.hm_model.specs.Sight.{name_at};
 ghost use Rattle.hm_agreement.specs.Cells.{board_name};
 ghost use Rattle.hm_cellbook.specs.Fetched.{WasFetched};
 ghost use Rattle.hm_desk.specs.Stalling.{IfFull, WasFull};
+ghost use Rattle.hm_desk.specs.Hindered.{FetchesBook, FindsGreater, IsHindered, TakesCost, WasOvertaken};
 ghost use Rattle.hm_desk.specs.Working.{GoesOn, GoesQuietly, IsAtDesk, IsAtWork, IsChanged, IsReady, book_stamp};
 
 use crate::halt::{Halt, meet_full};
@@ -68,6 +69,8 @@ fn fetch_book<C: Worker<BookUsage>>(c: &mut C) -> Snapshot
     ensures fetched { WasFetched (C.sight c.new) result }
     ensures stamp { result.stamp < u64.MAX }
     ensures now { book_stamp (C.sight c.new) ≡ result.stamp }
+    ensures tends { (C.sight c.new).tends ≡ (C.sight c.old).tends }
+    ensures entry { FetchesBook (C.sight c.old) (C.sight c.new) result }
 {
     c.fetch(COMMON, HAND)
 }
@@ -90,6 +93,8 @@ fn build<C: Worker<BookUsage>>(
     ensures ready { IfOk result (IsReady (C.sight c.new) order.now at.now.stamp) }
     ensures board { name_at (C.sight c.new).roots 7 ≡ Some board_name }
     ensures full { result ≡ Err AttemptRefused.Full → (C.sight c.new).room ≡ 0 }
+    ensures tends { (C.sight c.new).tends ≡ (C.sight c.old).tends }
+    ensures takes { TakesCost (C.sight c.old) (C.sight c.new) at.now order.now }
 {
     cell_apply(alloc, c, at, order, true)
 }
@@ -116,6 +121,10 @@ fn store<C: Worker<BookUsage>>(
     ensures told { so_far.new.told ≡ so_far.old.told }
     ensures full { result ≡ Tried.Full → (C.sight c.new).room ≡ 0 }
     ensures changed { result ≡ Tried.Changed → IsChanged (C.sight c.new) stamp }
+    ensures tends { (C.sight c.new).tends ≡ (C.sight c.old).tends }
+    ensures same { result ≡ Tried.Full → C.sight c.new ≡ C.sight c.old }
+    ensures greater { result ≡ Tried.Changed
+        → FindsGreater (C.sight c.old) (C.sight c.new) stamp }
 {
     let Attempt {
         refs,
@@ -155,7 +164,12 @@ fn attempt<C: Worker<BookUsage>>(
     ensures unchanged { result ≢ Tried.Applied → so_far.new ≡ so_far.old }
     ensures told { so_far.new.told ≡ so_far.old.told }
     ensures full { result ≡ Tried.Full → (C.sight c.new).room ≡ 0 }
-    ensures changed { result ≡ Tried.Changed → IsChanged (C.sight c.new) (book_stamp (C.sight c.old)) }
+    ensures changed { result ≡ Tried.Changed
+        → IsChanged (C.sight c.new) (book_stamp (C.sight c.old)) }
+    ensures tends { (C.sight c.new).tends ≡ (C.sight c.old).tends }
+    ensures hindered { result ≡ Tried.Full
+        → IsHindered 1 orders.now so_far.old.next (C.sight c.old) (C.sight c.new) }
+    ensures overtaken { result ≡ Tried.Changed → WasOvertaken (C.sight c.old) (C.sight c.new) }
 {
     let at = fetch_book(c);
     let order = &orders[so_far.next as usize];
@@ -182,6 +196,9 @@ pub(crate) fn apply<C: Worker<BookUsage>>(
     ensures unchanged { OnErr result (so_far.new ≡ so_far.old) }
     ensures told { so_far.new.told ≡ so_far.old.told }
     ensures full { IfErr result (λ halt. IfFull halt (WasFull (C.sight c.old))) }
+    ensures tends { (C.sight c.old).tends ≤ (C.sight c.new).tends }
+    ensures hindered { IfErr result (λ halt. IfFull halt (λ used free.
+        IsHindered 1 orders.now so_far.old.next (C.sight c.old) (C.sight c.new))) }
 {
     let mut tended = false;
     loop {

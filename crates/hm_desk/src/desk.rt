@@ -6,6 +6,7 @@ ghost use Rattle.hm_cellbook.specs.Fetched.{book_allowed, book_lawful};
 ghost use Rattle.hm_desk.specs.Desk.{AdmitAll, AreOwn, KeepsBook};
 ghost use Rattle.hm_desk.specs.Progress.{HasCome};
 ghost use Rattle.hm_desk.specs.Stalling.{IfFull, IfStalled, WasFull};
+ghost use Rattle.hm_desk.specs.Hindered.{IsHindered};
 ghost use Rattle.hm_desk.specs.Working.{GoesOn, IsAtWork};
 
 use crate::applying::apply;
@@ -60,6 +61,11 @@ impl Desk {
         Desk { limits }
     }
 
+    /// Applies the caller's orders from where it left off, tells the board, and tends between them.
+    ///
+    /// Whatever the answer, the orders that are applied are noted in `so_far`, and the next call goes on from there.
+    /// [`Worked::Finished`] comes where all orders are applied and told, and [`Worked::Stalled`] where the caller's room
+    /// was 0. At `Stalled` the board may be owed the last number. [`Worked::Memory`] comes at want of memory alone.
     pub fn work<C: Worker<BookUsage>, G: Gate>(
         &self,
         alloc: Global,
@@ -81,6 +87,10 @@ impl Desk {
         ensures told { result ≡ Worked.Finished → so_far.new.told ≡ so_far.new.next }
         ensures stalled { IfStalled result (λ at used free. (at ≡ so_far.new.next)
             × WasFull (C.sight c.old) used free) }
+        ensures tends { (C.sight c.old).tends + so_far.new.next
+            ≤ (C.sight c.new).tends + so_far.old.next }
+        ensures hindered { IfStalled result (λ at used free. so_far.new.next ≡ so_far.old.next
+            → IsHindered 0 orders.now so_far.old.next (C.sight c.old) (C.sight c.new)) }
     {
         // They admit every order; contracts alone need to know it.
         let _ = &self.limits;
@@ -115,6 +125,11 @@ fn work_on<C: Worker<BookUsage>, G: Gate>(
     ensures next { OnOk result (so_far.new.next ≡ so_far.old.next + 1) }
     ensures told { OnOk result (so_far.new.told ≡ so_far.new.next) }
     ensures full { IfErr result (λ halt. IfFull halt (WasFull (C.sight c.old))) }
+    ensures tends { (C.sight c.old).tends + so_far.new.next
+        ≤ (C.sight c.new).tends + so_far.old.next }
+    ensures hindered { IfErr result (λ halt. IfFull halt (λ used free.
+        so_far.new.next ≡ so_far.old.next
+        → IsHindered 1 orders.now so_far.old.next (C.sight c.old) (C.sight c.new))) }
 {
     let order = &orders[so_far.next as usize];
     // The files are numbered one above their callers.
@@ -140,6 +155,11 @@ fn work_through<C: Worker<BookUsage>, G: Gate>(
     ensures next { OnOk result (so_far.new.next ≡ length orders.now) }
     ensures told { OnOk result (so_far.new.told ≡ so_far.new.next) }
     ensures full { IfErr result (λ halt. IfFull halt (WasFull (C.sight c.old))) }
+    ensures tends { (C.sight c.old).tends + so_far.new.next
+        ≤ (C.sight c.new).tends + so_far.old.next }
+    ensures hindered { IfErr result (λ halt. IfFull halt (λ used free.
+        so_far.new.next ≡ so_far.old.next
+        → IsHindered 0 orders.now so_far.old.next (C.sight c.old) (C.sight c.new))) }
 {
     settle(c, orders, so_far)?;
     while so_far.next < orders.len() as u64 {

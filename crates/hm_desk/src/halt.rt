@@ -1,5 +1,5 @@
 //! Why a caller's work is halted, and what it does at want of room.
-ghost use Rattle.std.specs.Prelude.{◌≡◌, false, true, OnOk, IfErr};
+ghost use Rattle.std.specs.Prelude.{◌≡◌, ◌<◌, ◌≤◌, false, true, OnOk, IfErr};
 ghost use Rattle.hm_model.specs.Tending.{KeepsNames};
 ghost use Rattle.hm_desk.specs.Stalling.{IfFull, WasFull};
 
@@ -21,6 +21,8 @@ pub(crate) enum Halt {
 pub(crate) fn meet_full<C: Worker<BookUsage>>(c: &mut C, tended: &mut bool) -> Result<(), Halt>
     requires { (C.sight c.old).room ≡ 0 }
     ensures same { KeepsNames (C.sight c.old) (C.sight c.new) }
+    ensures tends { (C.sight c.old).tends ≤ (C.sight c.new).tends }
+    ensures tended { tended.old ≡ false → (C.sight c.old).tends < (C.sight c.new).tends }
     ensures once { OnOk result ((tended.old ≡ false) × (tended.new ≡ true)) }
     ensures full { IfErr result (λ halt. IfFull halt (WasFull (C.sight c.old))) }
 {

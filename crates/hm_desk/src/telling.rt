@@ -1,8 +1,9 @@
 //! How a caller tells the board how many of its orders are applied.
-ghost use Rattle.std.specs.Prelude.{◌≡◌, ◌+◌, Some, OnOk, OnErr, IsErr, IfErr};
+ghost use Rattle.std.specs.Prelude.{◌≡◌, ◌⊎◌, ◌+◌, ◌<◌, ◌≤◌, Some, OnOk, OnErr, IsErr, IfErr};
 ghost use Rattle.hm_model.specs.Sight.{name_at};
 ghost use Rattle.hm_agreement.specs.Cells.{board_name};
 ghost use Rattle.hm_desk.specs.Stalling.{IfFull, WasFull};
+ghost use Rattle.hm_desk.specs.Hindered.{FetchesCommon, IsHindered, Settles, TakesFew};
 ghost use Rattle.hm_desk.specs.Working.{GoesOn, GoesQuietly, IsAtDesk, IsAtWork};
 
 use crate::applying::COMMON;
@@ -21,6 +22,8 @@ fn fetch_board<C: Worker<BookUsage>>(c: &mut C)
     ensures desk { IsAtDesk (C.sight c.new) }
     ensures quiet { GoesQuietly (C.sight c.old) (C.sight c.new) }
     ensures board { name_at (C.sight c.new).roots 7 ≡ Some board_name }
+    ensures tends { (C.sight c.new).tends ≡ (C.sight c.old).tends }
+    ensures entry { FetchesCommon (C.sight c.old) (C.sight c.new) }
 {
     c.fetch_ref(COMMON, 3, BOARD);
 }
@@ -41,6 +44,8 @@ fn store_owed<C: Worker<BookUsage>>(
     ensures full { IsErr result → (C.sight c.new).room ≡ 0 }
     ensures unchanged { OnErr result (so_far.new ≡ so_far.old) }
     ensures same { OnErr result (C.sight c.new ≡ C.sight c.old) }
+    ensures tends { (C.sight c.new).tends ≡ (C.sight c.old).tends }
+    ensures few { OnOk result (TakesFew 1 (C.sight c.old) (C.sight c.new)) }
 {
     // The files are numbered one above their callers.
     let number = orders[0].file - 1;
@@ -63,6 +68,11 @@ pub(crate) fn tell<C: Worker<BookUsage>>(
     ensures next { so_far.new.next ≡ so_far.old.next }
     ensures told { OnOk result (so_far.new.told ≡ so_far.new.next) }
     ensures full { IfErr result (λ halt. IfFull halt (WasFull (C.sight c.old))) }
+    ensures empty { IsErr result → (C.sight c.old).room ≡ 0 }
+    ensures tends { (C.sight c.old).tends ≤ (C.sight c.new).tends }
+    ensures tended { OnErr result ((C.sight c.old).tends < (C.sight c.new).tends) }
+    ensures few { OnOk result
+        (((C.sight c.old).room ≡ 0) ⊎ TakesFew 1 (C.sight c.old) (C.sight c.new)) }
 {
     let mut tended = false;
     loop {
@@ -85,6 +95,12 @@ pub(crate) fn settle<C: Worker<BookUsage>>(
     ensures next { so_far.new.next ≡ so_far.old.next }
     ensures told { OnOk result (so_far.new.told ≡ so_far.new.next) }
     ensures full { IfErr result (λ halt. IfFull halt (WasFull (C.sight c.old))) }
+    ensures tends { (C.sight c.old).tends ≤ (C.sight c.new).tends }
+    ensures hindered { OnErr result
+        (IsHindered 0 orders.now so_far.old.next (C.sight c.old) (C.sight c.new)) }
+    ensures settled { OnOk result
+        (IsHindered 0 orders.now so_far.old.next (C.sight c.old) (C.sight c.new)
+        ⊎ Settles (C.sight c.old) (C.sight c.new)) }
 {
     if so_far.told == so_far.next {
         return Ok(());

@@ -1,4 +1,5 @@
 //! How a caller tends the heap between its orders and at want of room.
+ghost use Rattle.std.specs.Prelude.{◌<◌};
 ghost use Rattle.hm_model.specs.Tending.{KeepsNames};
 
 use hm_cellbook::BookUsage;
@@ -10,6 +11,7 @@ const MOST_MOVES: u32 = 8;
 /// Tends until the caller freed versions. Where there is nothing more to be done before that, the answer is false.
 pub(crate) fn make_room<C: Worker<BookUsage>>(c: &mut C) -> bool
     ensures same { KeepsNames (C.sight c.old) (C.sight c.new) }
+    ensures tends { (C.sight c.old).tends < (C.sight c.new).tends }
 {
     let mut moves = 0;
     while moves < MOST_MOVES {
@@ -26,6 +28,7 @@ pub(crate) fn make_room<C: Worker<BookUsage>>(c: &mut C) -> bool
 /// Tends after an order, until there is nothing more to be done or a piece was looked at.
 pub(crate) fn tend_after<C: Worker<BookUsage>>(c: &mut C)
     ensures same { KeepsNames (C.sight c.old) (C.sight c.new) }
+    ensures tends { (C.sight c.old).tends < (C.sight c.new).tends }
 {
     let mut moves = 0;
     while moves < MOST_MOVES {

@@ -7,3 +7,7 @@ pub mod Applied
 pub mod Telling
 pub mod Opened
 
+pub mod Jobs
+pub mod Ended
+pub mod Told
+pub mod Outcomes

@@ -6,7 +6,8 @@ use Rattle.std.specs.Result.{IsErrAnd}
 use Rattle.std.proofs.lemmas.Result.{err_from_is_err_and}
 use Rattle.hm_replay.specs.Words.{file_at}
 
-placed : {A : Type 0} (P : ℕ → A → Type 0) (xs : List A) (y : A) → ((place : ℕ) → IfSome (slice_get xs place) (P place)) → P (length xs) y
+-- what holds of each item by its place holds of each after a push too
+pub placed : {A : Type 0} (P : ℕ → A → Type 0) (xs : List A) (y : A) → ((place : ℕ) → IfSome (slice_get xs place) (P place)) → P (length xs) y
     → (place : ℕ) → IfSome (slice_get (xs ++ y ∷ []) place) (P place)
 placed P [] y all here zero = here
 placed P [] y all here (suc place) = tt

@@ -26,7 +26,7 @@ use Rattle.hm_replay.specs.Concluding.{CameTo, HasEnded, HasFinished, HasPart, H
 use Rattle.hm_replay.proofs.Applied.{file_of}
 
 -- a list has an element at each place within
-there : {A : Type 0} (xs : List A) (k : ℕ) → k < length xs → (x : A) × (slice_get xs k ≡ Some x)
+pub there : {A : Type 0} (xs : List A) (k : ℕ) → k < length xs → (x : A) × (slice_get xs k ≡ Some x)
 there {A} xs k within = go (slice_get_cases xs k).1
   where
     go : ((x : A) × (k < length xs) × (slice_get xs k ≡ Some x) × (get_or xs k x ≡ x))

@@ -5,11 +5,9 @@ use Rattle.hm_edge.specs.Sinks.{bytes_after}
 use Rattle.hm_orders.specs.declared.order.Order.{Order}
 use Rattle.hm_orders.specs.Interleaving.{Interleaves, part_of}
 use Rattle.hm_orders.specs.ReportText.{report_lines, report_text}
-use Rattle.hm_model.specs.Store.{PlainStore, contents_of}
 use Rattle.hm_model.specs.History.{store_of}
 use Rattle.hm_book.specs.Limits.{no_limits}
 use Rattle.hm_book.specs.Run.{report_of, rows_by_file}
-use Rattle.hm_agreement.specs.Cells.{book_name}
 use Rattle.hm_agreement.specs.Spelled.{IsBookStart, spelled}
 use Rattle.hm_agreement.specs.Told.{told_on}
 use Rattle.hm_cellbook.specs.declared.usage.BookUsage.{BookUsage}
@@ -19,7 +17,6 @@ use Rattle.hm_moves.specs.Good.{Core}
 use Rattle.hm_cells.specs.Facts.{Facts}
 use Rattle.hm_cells.specs.Closing.{CarriesPass, Ended, EndsIn, HeldToTheEnd, IsWholeHistory}
 use Rattle.hm_replay.specs.Loading.{AreHeld}
-use Rattle.hm_replay.specs.declared.conclusion.FullAt.{FullAt}
 
 -- the heap of a replay has a caller for each file, and each caller 4 regions of 4096 versions; it
 -- starts with an empty book, without limits
@@ -80,14 +77,3 @@ pub record Headline (told : List ℕ → Option (List ℕ)) (names : List (List 
 abbrev pub PutsReport : ℕ → Ended BookUsage → ℕ → ℕ → Type 0
 PutsReport files e puts puts_after =
     puts_after ≡ count_after (line_count files (spelled e.history)) puts
-
--- the heap was full for a caller when it last had no room: all places of its region were used, and
--- it was not done, since the board tells fewer orders than its file has; the stamp is the common
--- object's at the end, and nothing was settled since
-pub record IsFull (told : List ℕ → Option (List ℕ)) (names : List (List ℕ)) (e : Ended BookUsage)
-    (at : FullAt) : Type 0 where
-  pub caller : at.caller < length names
-  pub settling : at.settling ≡ false
-  pub stamp : at.root ≡ length (spelled e.history)
-  pub settled : at.settled ≡ at.root
-  pub used : 4096 ≤ at.used

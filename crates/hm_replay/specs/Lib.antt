@@ -5,3 +5,4 @@ pub mod Refusals
 pub mod Concluding
 pub mod Working
 pub mod Headline
+pub mod Outcomes

@@ -1,5 +1,5 @@
 -- The callers of a replay at work, each on the orders of its file.
-use Rattle.std.specs.Prelude.{◌≡◌, ℕ, List, length, Some, slice_get}
+use Rattle.std.specs.Prelude.{◌≡◌, ℕ, List, length, Some, IfSome, slice_get}
 use Rattle.hm_orders.specs.declared.order.Order.{Order}
 use Rattle.hm_model.specs.Sight.{IsFresh, IsSameCaller}
 use Rattle.hm_book.specs.Limits.{no_limits}
@@ -39,6 +39,11 @@ pub record AreReady (passes : List (Facts BookUsage)) (files : List (List Order)
   pub count : length passes ≡ length files
   pub each : (k : ℕ) (s : Facts BookUsage) (orders : List Order) → slice_get passes k ≡ Some s
       → slice_get files k ≡ Some orders → IsReady s orders
+
+-- jobs have each a pass and the orders of its file, at the same place
+abbrev pub AreJobs : List (Facts BookUsage) → List (List Order) → List Working → Type 0
+AreJobs passes files jobs = (k : ℕ) → IfSome (slice_get jobs k)
+    (λ job. (slice_get passes k ≡ Some job.pass) × (slice_get files k ≡ Some job.orders))
 
 -- each caller has come to something with the orders of its file, from where its pass was on
 pub record HaveWorked (before after : List (Facts BookUsage)) (files : List (List Order))

@@ -16,7 +16,7 @@ use std::marker::Model;
 /// A caller with the orders of its file, and how far it has come with them.
 #[derive(Drop)]
 pub(crate) struct Job<'h> {
-    orders: Vec<Order>,
+    orders: &'h [Order],
     came: Came,
     // Last, so that its padding keeps the next job in a list off its cache lines.
     mutator: Mutator<'h, BookUsage>,
@@ -29,13 +29,13 @@ impl<'h> Model for Job<'h> {
 
     ghost view = { λ j. record {
       pass = j.mutator.pass;
-      orders = j.orders.items;
+      orders = j.orders.now;
       came = j.came;
     } };
 
     ghost invariant = { λ j. IsAtWork (record {
       pass = j.mutator.pass;
-      orders = j.orders.items;
+      orders = j.orders.now;
       came = j.came;
     }) };
 }
@@ -46,12 +46,12 @@ impl<'h> Job<'h> {
         alloc: Global,
         heap: &'h Heap<BookUsage>,
         pass: Pass<BookUsage>,
-        orders: Vec<Order>,
+        orders: &'h [Order],
     ) -> Job<'h>
         requires rests { IsResting pass heap.now }
-        requires ready { IsReady pass orders.items }
+        requires ready { IsReady pass orders.now }
         ensures pass { result.pass ≡ pass }
-        ensures orders { result.orders ≡ orders.items }
+        ensures orders { result.orders ≡ orders.now }
     {
         Job {
             orders,
@@ -71,7 +71,7 @@ impl<'h> Job<'h> {
         self.came.worked = desk.work(
             alloc,
             &mut self.mutator,
-            self.orders.as_slice(),
+            self.orders,
             &mut self.came.progress,
             gate,
         );

@@ -4,10 +4,12 @@
 mod conclusion;
 mod job;
 mod load;
+mod outcome;
 mod refusal;
 mod replay;
 mod report;
 mod words;
 
 pub use conclusion::FullAt;
+pub use outcome::{Outcome, tell};
 pub use refusal::Refused;

@@ -1,12 +1,12 @@
 //! From the orders of several files to their report.
-ghost use Rattle.std.specs.Prelude.{◌≡◌, ◌<◌, All, IfOk, IfErr, IfSome, IsSome, List, map, length, Some, None, Err};
+ghost use Rattle.std.specs.Prelude.{◌≡◌, ◌<◌, ◌≤◌, [], vec_capacity, slice_index_or, ℕ, All, IfOk, IfErr, IfSome, IsSome, List, map, length, Some, None, Err};
 ghost use Rattle.hm_orders.specs.declared.order.Order.{Order};
 ghost use Rattle.hm_cells.specs.Closing.{AreAll};
 ghost use Rattle.hm_cells.specs.Facts.{IsAtRest};
 ghost use Rattle.hm_replay.specs.Loading.{AreOfFiles};
 ghost use Rattle.hm_replay.specs.Headline.{IsBookHeap, IsReplay};
 ghost use Rattle.hm_replay.specs.Concluding.{IfFull, TellsAll, WasFullAt};
-ghost use Rattle.hm_replay.specs.Working.{AreReady, HaveWorked};
+ghost use Rattle.hm_replay.specs.Working.{AreJobs, AreReady, HaveWorked, IsAtWork, Working, Works};
 
 use crate::conclusion::{Came, Stopped, conclude};
 use crate::job::Job;
@@ -52,13 +52,18 @@ pub(crate) fn replay<R: Threads + Sync, G: Gate + Sync>(
             ended: Err(Stopped::Memory),
         };
     };
-    let (passes, came) = work_all(rt, alloc, &heap, passes, files, gate);
+    let (passes, came) = work_all(rt, alloc, &heap, passes, files.as_slice(), gate);
     let closed = Some(close(heap, passes));
-    let ended = match came {
-        Some(came) => conclude(alloc, came),
-        None => Err(Stopped::Memory),
-    };
-    Replayed { closed, ended }
+    match came {
+        Some(came) => Replayed {
+            closed,
+            ended: conclude(alloc, came),
+        },
+        None => Replayed {
+            closed,
+            ended: Err(Stopped::Memory),
+        },
+    }
 }
 
 /// A heap with an empty book, and its passes, one for each file.
@@ -97,41 +102,94 @@ fn work_all<R: Threads + Sync, G: Gate + Sync>(
     alloc: Global,
     heap: &Heap<BookUsage>,
     passes: Vec<Pass<BookUsage>>,
-    files: Vec<Vec<Order>>,
+    files: &[Vec<Order>],
     gate: &G,
 ) -> (Vec<Pass<BookUsage>>, Option<Vec<Came>>)
     requires all { AreAll heap.now passes.items }
     requires rest { All IsAtRest passes.items }
     requires some { 0 < length passes.items }
-    requires ready { AreReady passes.items (map (λ orders. orders.items) files.items) }
+    requires ready { AreReady passes.items (map (λ orders. orders.items) files.now) }
     ensures all { AreAll heap.now result.0.items }
     ensures worked { IfSome result.1 (λ came. HaveWorked passes.items result.0.items
-        (map (λ orders. orders.items) files.items) came.items) }
+        (map (λ orders. orders.items) files.now) came.items) }
 {
     let count = passes.len();
-    let Ok(mut jobs) = Vec::with_capacity(alloc, count) else {
+    let Ok(jobs) = Vec::with_capacity(alloc, count) else {
         return (passes, None);
     };
-    let Ok(mut back) = Vec::with_capacity(alloc, count) else {
+    let Ok(back) = Vec::with_capacity(alloc, count) else {
         return (passes, None);
     };
-    let Ok(mut came) = Vec::with_capacity(alloc, count) else {
+    let Ok(came) = Vec::with_capacity(alloc, count) else {
         return (passes, None);
     };
-    for (pass, orders) in passes.into_iter().zip(files) {
-        jobs.push_reserved(Job::new(alloc, heap, pass, orders));
-    }
+    let mut jobs = jobs_of(alloc, heap, passes, files, jobs);
+    work_side_by_side(rt, alloc, jobs.as_mut_slice(), gate);
+    let (back, came) = ends_of(jobs, back, came);
+    (back, Some(came))
+}
+
+/// Lets the callers of all jobs work, on as many threads as there are callers.
+fn work_side_by_side<R: Threads + Sync, G: Gate + Sync>(
+    rt: &R,
+    alloc: Global,
+    jobs: &mut [Job<'_>],
+    gate: &G,
+)
+    requires { 0 < length jobs.old }
+    ensures count { length jobs.new ≡ length jobs.old }
+    ensures works { (k : ℕ) (d : Working) → k < length jobs.old
+        → Works (slice_index_or jobs.old k d) (slice_index_or jobs.new k d) }
+{
     let desk = Desk::new(Limits::NONE);
     thread::for_each_mut(
         rt,
-        jobs.as_mut_slice(),
-        count,
+        jobs,
+        jobs.len(),
         &|_, job| job.work(alloc, &desk, gate),
     );
+}
+
+/// A job for each pass, in the same order, with the orders of its file. There is room for all of them.
+fn jobs_of<'h>(
+    alloc: Global,
+    heap: &'h Heap<BookUsage>,
+    passes: Vec<Pass<BookUsage>>,
+    files: &'h [Vec<Order>],
+    mut jobs: Vec<Job<'h>>,
+) -> Vec<Job<'h>>
+    requires all { AreAll heap.now passes.items }
+    requires rest { All IsAtRest passes.items }
+    requires ready { AreReady passes.items (map (λ orders. orders.items) files.now) }
+    requires none { jobs.items ≡ [] }
+    requires room { length passes.items ≤ vec_capacity jobs }
+    ensures count { length result.items ≡ length passes.items }
+    ensures jobs { AreJobs passes.items (map (λ orders. orders.items) files.now) result.items }
+{
+    for pass in passes {
+        let orders = files[jobs.len()].as_slice();
+        jobs.push_reserved(Job::new(alloc, heap, pass, orders));
+    }
+    jobs
+}
+
+/// The passes of all jobs, and what the work came to, in the same order. There is room for all of them.
+fn ends_of(
+    jobs: Vec<Job<'_>>,
+    mut passes: Vec<Pass<BookUsage>>,
+    mut came: Vec<Came>,
+) -> (Vec<Pass<BookUsage>>, Vec<Came>)
+    requires none { (passes.items ≡ []) × (came.items ≡ []) }
+    requires room { length jobs.items ≤ vec_capacity passes }
+    requires more { length jobs.items ≤ vec_capacity came }
+    ensures passes { result.0.items ≡ map (λ job. job.pass) jobs.entry.items }
+    ensures came { result.1.items ≡ map (λ job. job.came) jobs.entry.items }
+    ensures at_work { All IsAtWork jobs.entry.items }
+{
     for job in jobs {
         let (pass, ended) = job.end();
-        back.push_reserved(pass);
+        passes.push_reserved(pass);
         came.push_reserved(ended);
     }
-    (back, Some(came))
+    (passes, came)
 }

@@ -1,4 +1,4 @@
-use Rattle.std.proofs.Common.{ap, ◌∙◌, subst}
+use Rattle.std.proofs.Common.{◌∙◌, subst}
 use Rattle.hm_cells.proofs.Words.{Meets, NoteFacts, Facts, facts_of}
 use Rattle.hm_cells.proofs.Rested.{meets_now, met_seated, own_met}
 use Rattle.hm_cells.proofs.notes.meet.Goals as goal

@@ -1,4 +1,4 @@
-use Rattle.hm_cells.proofs.Words.{Looks, Builds, StoreOwn, move_by, facts_of}
+use Rattle.hm_cells.proofs.Words.{Builds, StoreOwn, move_by, facts_of}
 use Rattle.hm_cells.proofs.notes.meet.Given as goal
 
 abbrev pub ghosts-look : goal.ghosts-look

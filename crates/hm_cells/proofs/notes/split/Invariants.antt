@@ -1,4 +1,4 @@
-use Rattle.hm_cells.proofs.Words.{Looks, Builds, StoreOwn, move_by, facts_of}
+use Rattle.hm_cells.proofs.Words.{Builds, StoreOwn, move_by, facts_of}
 use Rattle.hm_cells.proofs.notes.split.Given as goal
 
 abbrev pub ghosts-note_out : goal.ghosts-note_out

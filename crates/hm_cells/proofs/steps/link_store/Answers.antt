@@ -1,5 +1,4 @@
-use Rattle.std.proofs.Common.{rules, ◌≡◌, ◌∙◌, ◌+◌, ℕ, Some, ap, sym, subst}
-use Rattle.hm_cells.proofs.Words.{naming_word, Facts, Takes, Gripped, facts_of}
+use Rattle.std.proofs.Common.{rules}
 use Rattle.hm_cells.proofs.Wanting.{HasLengths}
 use Rattle.hm_cells.proofs.Loading.{load_fit, load_version}
 use Rattle.hm_cells.proofs.Linking.{link_store_ready, made_now, later_now}

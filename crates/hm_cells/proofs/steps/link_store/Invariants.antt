@@ -1,5 +1,5 @@
 use Rattle.std.proofs.Common.{Some}
-use Rattle.hm_cells.proofs.Words.{Looks, Builds, LinkStore, known_at, linked, move_by, stored, facts_of}
+use Rattle.hm_cells.proofs.Words.{Builds, LinkStore, known_at, linked, move_by, stored, facts_of}
 use Rattle.hm_cells.proofs.steps.link_store.Given as goal
 
 abbrev pub ghosts-exchange : goal.ghosts-exchange

@@ -1,5 +1,3 @@
-use Rattle.std.proofs.Common.{◌∙◌, ap, subst, arith}
-use Rattle.hm_cells.proofs.Words.{field_look, Looks, Facts, known_at, Takes, Gripped, facts_of}
 use Rattle.hm_cells.proofs.Loading.{load_fit, load_version, field_ready, field_now}
 use Rattle.hm_cells.proofs.steps.load_field.Goals as goal
 

@@ -1,5 +1,5 @@
-use Rattle.std.proofs.Common.{rules, ℕ, ◌∙◌, ap, sym, subst, arith}
-use Rattle.hm_cells.proofs.Words.{Looks, Builds, LoadLink, Facts, known_at, MayWant, Takes, wanted, Gripped, facts_of}
+use Rattle.std.proofs.Common.{rules, sym, subst}
+use Rattle.hm_cells.proofs.Words.{Facts, known_at, MayWant, wanted, facts_of}
 use Rattle.hm_cells.proofs.Wanting.{HasLengths, want_may, want_reads}
 use Rattle.hm_cells.proofs.Loading.{load_fit, load_version, link_ready, link_now}
 use Rattle.hm_cells.proofs.steps.load_link.Goals as goal

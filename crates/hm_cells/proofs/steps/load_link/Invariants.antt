@@ -1,4 +1,4 @@
-use Rattle.hm_cells.proofs.Words.{Looks, Builds, LoadLink, known_at, move_by, wanted, facts_of}
+use Rattle.hm_cells.proofs.Words.{Looks, LoadLink, known_at, move_by, wanted, facts_of}
 use Rattle.hm_cells.proofs.steps.load_link.Given as goal
 
 abbrev pub ghosts-load : goal.ghosts-load

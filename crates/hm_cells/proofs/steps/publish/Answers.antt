@@ -1,5 +1,3 @@
-use Rattle.std.proofs.Common.{◌+◌, ◌∙◌, refl, ap, subst}
-use Rattle.hm_cells.proofs.Words.{Looks, Builds, Publish, Facts, Takes, drafted, Gripped, facts_of}
 use Rattle.hm_cells.proofs.Storing.{first_ready, first_now}
 use Rattle.hm_cells.proofs.steps.publish.Goals as goal
 

@@ -1,4 +1,4 @@
-use Rattle.hm_cells.proofs.Words.{Looks, Builds, Publish, drafted, move_by, facts_of}
+use Rattle.hm_cells.proofs.Words.{Builds, Publish, drafted, move_by, facts_of}
 use Rattle.hm_cells.proofs.steps.publish.Given as goal
 
 abbrev pub ghosts-store : goal.ghosts-store

@@ -1,5 +1,3 @@
-use Rattle.std.proofs.Common.{refl, subst, arith}
-use Rattle.hm_cells.proofs.Words.{Looks, Builds, StoreOwn, Facts, Takes, facts_of}
 use Rattle.hm_cells.proofs.Storing.{own_ready, own_now}
 use Rattle.hm_cells.proofs.steps.store_own.Goals as goal
 

@@ -1,4 +1,4 @@
-use Rattle.hm_cells.proofs.Words.{Looks, Builds, StoreOwn, move_by, facts_of}
+use Rattle.hm_cells.proofs.Words.{Builds, StoreOwn, move_by, facts_of}
 use Rattle.hm_cells.proofs.steps.store_own.Given as goal
 
 abbrev pub ghosts-store : goal.ghosts-store

@@ -1,5 +1,5 @@
 use Rattle.std.proofs.Common.{refl, arith}
-use Rattle.hm_moves.specs.declared.moving.Act.TheVariants.{Looks, Builds}
+use Rattle.hm_moves.specs.declared.moving.Act.TheVariants.{Builds}
 use Rattle.hm_moves.specs.declared.moving.Build.TheVariants.{StoreOwn}
 use Rattle.hm_cells.proofs.Creating.{fits_still, one_more, rest_still, room_still}
 use Rattle.hm_cells.proofs.tests.creates.Goals as goal

@@ -1,13 +1,16 @@
 -- The caller goes on from attempt to attempt.
-use Rattle.std.proofs.Common.{rules, refl, IfErr, ◌≡◌, ◌≤◌, ◌<◌, ◌∙◌, ◌+◌, ◌-◌, ℕ, Bool, arith, false, true, sym, subst, cond}
+use Rattle.std.proofs.Common.{ap, inl, inr, rules, refl, IfErr, ◌≡◌, ◌≤◌, ◌<◌, ◌∙◌, ◌+◌, ◌-◌, ℕ, Bool, arith, false, true, sym, subst, cond}
 use Rattle.hm_desk.specs.Stalling.{IfFull, WasFull}
 use Rattle.hm_desk.specs.Working.{book_stamp}
 use Rattle.hm_desk.proofs.Quiet.{full_earlier_err, on_names, on_none, on_then, stamp_goes, stamp_names}
 use Rattle.hm_desk.proofs.Coming.{work_names}
+use Rattle.hm_desk.specs.declared.progress.Progress.{Progress}
+use Rattle.hm_desk.specs.Hindered.IsHindered.{overtaken}
+use Rattle.hm_desk.proofs.Hindering.{hindered_from, hindered_goes, hindered_same, if_full}
 use Rattle.hm_desk.proofs.applying.apply.Goals as goal
 
 pub loop-c-init : goal.loop-c-init
-loop-c-init g c = record { work = c.requires.work; goes = on_none _; same = refl }
+loop-c-init g c = record { work = c.requires.work; goes = on_none _; same = refl; tends = omega arith; start = inl refl }
 
 pub returns-in-Applied-clause-goes : goal.returns-in-Applied-clause-goes
 returns-in-Applied-clause-goes g c = on_then _ _ _ c.loop-c.invariant.goes c.attempt.ensures.goes
@@ -20,6 +23,9 @@ loop-c-preserved-in-Changed g c = record {
   work = c.attempt.ensures.work;
   goes = on_then _ _ _ c.loop-c.invariant.goes c.attempt.ensures.goes;
   same = c.in-Changed.ensures.unchanged (λ e. absurd (cc)) ∙ c.loop-c.invariant.same;
+  tends = omega (arith, c.loop-c.invariant.tends, c.attempt.ensures.tends);
+  start = inr (hindered_from _ _ _ _ _ c.loop-c.invariant.start c.attempt.ensures.goes
+      (overtaken (c.in-Changed.ensures.overtaken refl)));
 }
 
 pub loop-c-preserved : goal.loop-c-preserved
@@ -28,6 +34,12 @@ loop-c-preserved g c = record {
   goes = on_then _ _ _ (on_then _ _ _ c.loop-c.invariant.goes c.attempt.ensures.goes)
       (on_names _ _ c.meet_full.ensures.same);
   same = c.in-Full.ensures.unchanged (λ e. absurd (cc)) ∙ c.loop-c.invariant.same;
+  tends = omega (arith, c.loop-c.invariant.tends, c.attempt.ensures.tends, c.meet_full.ensures.tends);
+  start = inr (hindered_goes _ _ _ _ _ _
+      (hindered_from _ _ _ _ _ c.loop-c.invariant.start c.attempt.ensures.goes
+      (hindered_same _ _ _ _ _ _ (ap (λ (p : Progress). p.next) c.loop-c.invariant.same)
+      (c.in-Full.ensures.hindered refl)))
+      (on_names _ _ c.meet_full.ensures.same));
 }
 
 -- the measure falls where the caller has tended for room
@@ -56,3 +68,12 @@ returns-in_err-meet_full-in-Full-clause-full g c =
     search rules in
     full_earlier_err _ _ c.from_residual.result
     (on_then _ _ _ c.loop-c.invariant.goes c.attempt.ensures.goes) then
+
+pub returns-in_err-meet_full-in-Full-clause-hindered : goal.returns-in_err-meet_full-in-Full-clause-hindered
+returns-in_err-meet_full-in-Full-clause-hindered g c =
+    if_full c.from_residual.result _
+    (hindered_goes _ _ _ _ _ _
+    (hindered_from _ _ _ _ _ c.loop-c.invariant.start c.attempt.ensures.goes
+    (hindered_same _ _ _ _ _ _ (ap (λ (p : Progress). p.next) c.loop-c.invariant.same)
+    (c.in-Full.ensures.hindered refl)))
+    (on_names _ _ c.meet_full.ensures.same))

@@ -6,7 +6,7 @@ use Rattle.hm_model.specs.declared.root.StoreIfRefused.{StoreIfRefused}
 use Rattle.hm_model.specs.declared.root.StoreIfRefused.TheVariants as refusal
 use Rattle.hm_desk.specs.Working.{IsAtDesk, IsAtWork}
 use Rattle.hm_desk.proofs.Coming.{work_quietly}
-use Rattle.hm_desk.proofs.Storing.{next_order, work_stored, desk_refused, quiet_refused, changed_refused, pushed, popped}
+use Rattle.hm_desk.proofs.Storing.{next_order, work_stored, desk_refused, greater_refused, quiet_refused, changed_refused, pushed, popped}
 use Rattle.hm_desk.proofs.applying.store.Goals as goal
 
 pub store_if-requires-clause-allowed : goal.store_if-requires-clause-allowed
@@ -62,3 +62,8 @@ pub returns-in-Err-clause-changed : goal.returns-in-Err-clause-changed
 returns-in-Err-clause-changed g c is =
     changed_refused _ _ _ _ _ _ c.in-Err.refused refl c.requires.work.desk (desk_after g c) c.requires.stamp
     c.in-Err.ensures.stamp c.in-Err.ensures.changed (sym c.from.ensures ∙ is)
+
+pub returns-in-Err-clause-greater : goal.returns-in-Err-clause-greater
+returns-in-Err-clause-greater g c is =
+    greater_refused _ _ _ _ _ _ c.in-Err.refused refl c.requires.work.desk (desk_after g c) c.requires.stamp
+    c.in-Err.ensures.changed (sym c.from.ensures ∙ is)

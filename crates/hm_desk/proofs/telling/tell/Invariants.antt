@@ -1,5 +1,5 @@
 -- The number is still owed, and the caller may tend for room once.
-use Rattle.std.proofs.Common.{◌≡◌, Some, cond}
+use Rattle.std.proofs.Common.{◌≡◌, ◌⊎◌, ◌<◌, ◌≤◌, true, Some, cond}
 use Rattle.hm_model.specs.Sight.{name_at}
 use Rattle.hm_agreement.specs.Cells.{board_name}
 use Rattle.hm_desk.specs.Working.{GoesOn, IsAtWork}
@@ -11,6 +11,9 @@ invariant-loop-c g l = record {
   board : name_at (g.C.Caller.sight l.c).roots 7 ≡ Some board_name;
   goes : GoesOn (g.C.Caller.sight l.fn.c) (g.C.Caller.sight l.c);
   same : l.so_far ≡ l.fn.so_far;
+  tends : (g.C.Caller.sight l.fn.c).tends ≤ (g.C.Caller.sight l.c).tends;
+  tended : l.tended ≡ true → (g.C.Caller.sight l.fn.c).tends < (g.C.Caller.sight l.c).tends;
+  start : (g.C.Caller.sight l.c ≡ g.C.Caller.sight l.fn.c) ⊎ ((g.C.Caller.sight l.fn.c).room ≡ 0);
 }
 
 abbrev pub decreases-loop-c : goal.decreases-loop-c

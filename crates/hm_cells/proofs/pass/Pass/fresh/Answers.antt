@@ -1,5 +1,5 @@
-use Rattle.std.proofs.Common.{◌≡◌, ◌-◌, ℕ, [], Some, set, refl, sym, ap, ◌∙◌, arith}
-use Rattle.hm_cells.proofs.Words.{Version, side_count, Gripped, site_of, first_roots}
+use Rattle.std.proofs.Common.{◌-◌, refl, sym, ap, arith}
+use Rattle.hm_cells.proofs.Words.{Version, site_of}
 use Rattle.hm_cells.proofs.Opening.{sure_first}
 use Rattle.hm_cells.proofs.Fresh.{first_grip, fresh_is, seated_fresh}
 use Rattle.hm_cells.proofs.pass.Pass.fresh.Goals as goal

@@ -1,7 +1,9 @@
 -- The caller sits down at its desk, works, and gets up.
 use Rattle.std.proofs.Common.{subst}
 use Rattle.hm_desk.specs.Desk.{AdmitAll}
-use Rattle.hm_desk.proofs.Ending.{work_begins}
+use Rattle.hm_desk.proofs.Quiet.{quiet_on, quiet_rests}
+use Rattle.hm_desk.proofs.Hindering.{hindered_goes}
+use Rattle.hm_desk.proofs.Beginning.{work_begins}
 use Rattle.hm_desk.proofs.desk.Desk.work.Goals as goal
 
 pub work_through-ended-requires : goal.work_through-ended-requires
@@ -9,3 +11,9 @@ work_through-ended-requires g c = record {
   work = work_begins c.args.self.now _ _ _ (subst AdmitAll c.self.view_is c.self.invariant) c.requires.keeps
       c.requires.orders c.requires.come;
 }
+
+pub returns-in-Err-Full-clause-hindered : goal.returns-in-Err-Full-clause-hindered
+returns-in-Err-Full-clause-hindered g c is =
+    let inner = rw c.in-Err-Full.is at c.in-Err-Full.field-0-is in
+    let h = rw (c.in-Err-Full.is, inner) at c.work_through-ended.ensures.hindered in
+    hindered_goes _ _ _ _ _ _ (h is) (quiet_on _ _ (quiet_rests _ _ c.clear_places.ensures.rests))

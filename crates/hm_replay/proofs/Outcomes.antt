@@ -1,0 +1,137 @@
+-- What a replay leaves, by the names of its files.
+use Rattle.std.proofs.Common.{◌≡◌, ◌≢◌, ℕ, ◌<◌, List, [], ◌∷◌, ◌++◌, length, Option, Some, None, IfSome, Result, Ok, Err, IfOk, IfErr, slice_index, refl, sym, ap, ◌∙◌, subst, append-nil}
+use Rattle.hm_edge.specs.Faults.{count_after}
+use Rattle.hm_edge.specs.Sinks.{bytes_after}
+use Rattle.hm_orders.specs.declared.order.Order.{Order}
+use Rattle.hm_orders.specs.declared.report.Report.{Report}
+use Rattle.hm_orders.specs.Interleaving.{Interleaves}
+use Rattle.hm_orders.specs.Putting.{PutsLines}
+use Rattle.hm_orders.specs.ReportText.{AddsFront, report_lines, report_text}
+use Rattle.hm_orders.proofs.Putting.{count-whole}
+use Rattle.hm_model.specs.History.{store_of}
+use Rattle.hm_book.specs.Limits.{no_limits}
+use Rattle.hm_book.specs.Run.{report_of, rows_by_file}
+use Rattle.hm_agreement.specs.Spelled.{spelled}
+use Rattle.hm_agreement.specs.Told.{told_on}
+use Rattle.hm_cellbook.specs.declared.usage.BookUsage.{BookUsage}
+use Rattle.hm_cells.specs.Closing.{Ended}
+use Rattle.hm_replay.specs.declared.conclusion.FullAt.{FullAt}
+use Rattle.hm_replay.specs.declared.conclusion.Stopped.{Stopped}
+use Rattle.hm_replay.specs.declared.conclusion.Stopped.TheVariants as stopped
+use Rattle.hm_replay.specs.Loading.{AreHeld}
+use Rattle.hm_replay.specs.Concluding.{IfFull, TellsAll, WasFullAt}
+use Rattle.hm_replay.specs.Headline.{Headline, IsReplay, PutsReport, Replayed, line_count, text_of}
+use Rattle.hm_replay.specs.Outcomes.{HasFront, StoppedAt}
+
+-- where nothing is written, nothing is a front
+pub nothing_written : (n : ℕ) (closed : Option (Ended BookUsage)) (old : Option (List ℕ)) → HasFront n closed old old
+nothing_written n None old = refl
+nothing_written n (Some e) None = record { front = []; rest = text_of n (spelled e.history); is_front = refl; adds = refl }
+nothing_written n (Some e) (Some bytes) = record {
+  front = [];
+  rest = text_of n (spelled e.history);
+  is_front = refl;
+  adds = ap (λ (l : List ℕ). Some l) (sym (append-nil bytes));
+}
+
+-- closed cells are there where there is a report
+never_memory : {X : Type 0} (x : X) → (a : Result X Stopped) → a ≡ Ok x → a ≡ Err stopped.Memory → ⊥
+never_memory x a is other = ok_is_no_err x (sym is ∙ other)
+  where
+    ok_is_no_err : {X : Type 0} (x : X) → Ok x ≡ Err stopped.Memory → ⊥
+    ok_is_no_err x e = absurd (cc)
+
+module _ (told : List ℕ → Option (List ℕ)) (files : List (List Order)) where
+  -- the named files were replayed
+  replayed_some : (names : List (List ℕ)) (e : Ended BookUsage) (report : Report) → AreHeld told names files
+      → IsReplay (length files) e → TellsAll files e.history report → Replayed told names (Some e)
+  replayed_some names e report held heap tells = record {
+    cells = e;
+    closed_are = refl;
+    heap = subst (λ (n : ℕ). IsReplay n e) held.count heap;
+    files = files;
+    held = held;
+    interleaves = tells.interleaves;
+    board = subst (λ (n : ℕ). (q : ℕ) → q < n
+        → told_on (store_of e.history) q ≡ slice_index (rows_by_file n (spelled e.history)) q) held.count tells.board;
+  }
+
+  report_is : (names : List (List ℕ)) (e : Ended BookUsage) (report : Report) → AreHeld told names files
+      → TellsAll files e.history report → report ≡ report_of no_limits (length names) (spelled e.history)
+  report_is names e report held tells =
+      tells.report_is ∙ ap (λ (n : ℕ). report_of no_limits n (spelled e.history)) held.count
+
+  module _ (report : Report) (closed : Option (Ended BookUsage)) (made : closed ≢ None)
+      (heap : IfSome closed (IsReplay (length files)))
+      (tells : IfSome closed (λ e. TellsAll files e.history report)) where
+    pub replayed : (names : Option (List (List ℕ))) → IfSome names (λ ns. AreHeld told ns files)
+        → IfSome names (λ ns. Replayed told ns closed)
+    replayed None held = tt
+    replayed (Some names) held = go closed made heap tells
+      where
+        go : (closed : Option (Ended BookUsage)) → closed ≢ None → IfSome closed (IsReplay (length files))
+            → IfSome closed (λ e. TellsAll files e.history report) → Replayed told names closed
+        go None made heap tells = absurd (made refl)
+        go (Some e) made heap tells = replayed_some names e report held heap tells
+
+    -- and a sink got the report
+    pub headline : (names : Option (List (List ℕ))) → IfSome names (λ ns. AreHeld told ns files)
+        → (old new : Option (List ℕ)) → new ≡ bytes_after (report_text report) old
+        → IfSome names (λ ns. Headline told ns closed old new)
+    headline None held old new written = tt
+    headline (Some names) held old new written = go closed made heap tells
+      where
+        go : (closed : Option (Ended BookUsage)) → closed ≢ None → IfSome closed (IsReplay (length files))
+            → IfSome closed (λ e. TellsAll files e.history report) → Headline told names closed old new
+        go None made heap tells = absurd (made refl)
+        go (Some e) made heap tells = record {
+          replayed = replayed_some names e report held heap tells;
+          written = written ∙ ap (λ (r : Report). bytes_after (report_text r) old) (report_is names e report held tells);
+        }
+
+    -- each of its lines was one put
+    pub lines : (names : Option (List (List ℕ))) → IfSome names (λ ns. AreHeld told ns files)
+        → (done : Unit {0}) (puts puts_after : ℕ) (old new : Option (List ℕ))
+        → PutsLines (report_lines report) (Ok done) puts puts_after old new
+        → IfSome names (λ ns. IfSome closed (λ e. PutsReport (length ns) e puts puts_after))
+    lines None held done puts puts_after old new put = tt
+    lines (Some names) held done puts puts_after old new put = go closed tells
+      where
+        go : (closed : Option (Ended BookUsage)) → IfSome closed (λ e. TellsAll files e.history report)
+            → IfSome closed (λ e. PutsReport (length names) e puts puts_after)
+        go None tells = tt
+        go (Some e) tells =
+            count-whole (report_lines report) done puts puts_after old new put
+            ∙ ap (λ (r : Report). count_after (length (report_lines r)) puts) (report_is names e report held tells)
+
+    -- or a front of it
+    pub front : (names : Option (List (List ℕ))) → IfSome names (λ ns. AreHeld told ns files)
+        → (old new : Option (List ℕ)) → AddsFront (report_text report) old new
+        → IfSome names (λ ns. HasFront (length ns) closed old new)
+    front None held old new adds = tt
+    front (Some names) held old new adds = go closed made tells
+      where
+        go : (closed : Option (Ended BookUsage)) → closed ≢ None → IfSome closed (λ e. TellsAll files e.history report)
+            → HasFront (length names) closed old new
+        go None made tells = absurd (made refl)
+        go (Some e) made tells =
+            subst (λ (r : Report). AddsFront (report_text r) old new) (report_is names e report held tells) adds
+
+  -- the heap was full for a caller
+  pub stopped_at : (at : FullAt) (closed : Option (Ended BookUsage)) → closed ≢ None
+      → IfSome closed (IsReplay (length files)) → IfSome closed (λ e. WasFullAt files e.history at)
+      → (names : Option (List (List ℕ))) → IfSome names (λ ns. AreHeld told ns files)
+      → IfSome names (λ ns. StoppedAt told ns closed (Some at) at.caller)
+  stopped_at at closed made heap was None held = tt
+  stopped_at at None made heap was (Some names) held = absurd (made refl)
+  stopped_at at (Some e) made heap was (Some names) held = record {
+    cells = e;
+    closed_are = refl;
+    heap = subst (λ (n : ℕ). IsReplay n e) held.count heap;
+    at = at;
+    full_is = refl;
+    caller_is = refl;
+    files = files;
+    held = held;
+    was = was;
+  }

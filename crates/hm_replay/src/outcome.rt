@@ -1,0 +1,130 @@
+//! The program's work from its words to its status.
+ghost use Rattle.std.specs.Prelude.{◌≡◌, ◌≢◌, ◌==◌, if◌then◌else◌, ◌⊎◌, ℕ, ◌<◌, ◌≤◌, ◌↔◌, List, [], ◌∷◌, Contains, length, Some, None, Ok, Err, IsSome, IfErr, IfSome, OnOk};
+ghost use Rattle.hm_edge.specs.Faults.{Rose, next_count};
+ghost use Rattle.hm_replay.specs.Words.{files_named, texts};
+ghost use Rattle.hm_replay.specs.Loading.{most_files};
+ghost use Rattle.hm_replay.specs.Headline.{Headline, IsReplay, PutsReport};
+ghost use Rattle.hm_replay.specs.Outcomes.{HasFront, IsWhy, SaysWhy};
+ghost use Rattle.hm_replay.specs.Refusals.{HasBegun, IsTold, names_failed, unread_of};
+
+use crate::conclusion::{FullAt, Stopped};
+use crate::load::load;
+use crate::refusal::Refused;
+use crate::replay::{Replayed, replay};
+use hm_cellbook::BookUsage;
+use hm_cells::Closed;
+use hm_desk::Gate;
+use hm_edge::{Shelf, Sink};
+use hm_orders::write_report;
+use std::alloc::Global;
+use std::thread::Threads;
+
+/// What a replay of the named files came to, before anything is told of it.
+#[derive(Drop)]
+struct Ended {
+    closed: Option<Closed<BookUsage>>,
+    full: Option<FullAt>,
+    result: Result<(), Refused>,
+}
+
+/// Reads the files that the words name, replays their orders, and writes the report.
+fn replay_files<R: Threads + Sync, S: Shelf, K: Sink, G: Gate + Sync>(
+    rt: &R,
+    alloc: Global,
+    words: &[String],
+    shelf: &mut S,
+    out: &mut K,
+    gate: &G,
+) -> Ended
+    ensures headline { OnOk result.result (IfSome (files_named (texts words.now)) (λ names.
+        Headline (S.told shelf.old) names result.closed (K.written out.old) (K.written out.new))) }
+    ensures lines { OnOk result.result (IfSome (files_named (texts words.now)) (λ names.
+        IfSome result.closed (λ e. PutsReport (length names) e (K.puts out.old) (K.puts out.new)))) }
+    ensures heap { IfSome (files_named (texts words.now)) (λ names.
+        IfSome result.closed (IsReplay (length names))) }
+    ensures front { IfSome (files_named (texts words.now)) (λ names.
+        HasFront (length names) result.closed (K.written out.old) (K.written out.new)) }
+    ensures untouched { IfErr result.result (λ refused.
+        HasBegun refused ⊎ (K.written out.new ≡ K.written out.old)) }
+    ensures silent { IfErr result.result (λ refused.
+        HasBegun refused ⊎ (K.puts out.new ≡ K.puts out.old)) }
+    ensures unmade { result.closed ≡ None → K.written out.new ≡ K.written out.old }
+
+    ensures why { IfErr result.result (IsWhy (S.told shelf.old) (files_named (texts words.now))
+        result.closed result.full) }
+    ensures words { (result.result ≡ Err Refused.Words) ↔ (files_named (texts words.now) ≡ None) }
+    ensures files { IfSome (files_named (texts words.now)) (λ names. most_files < length names
+        → result.result ≡ Err (Refused.Files (length names))) }
+    ensures read { IfSome (unread_of result.result)
+        (λ _. Rose (S.faults shelf.old) (S.faults shelf.new)) }
+    ensures unread { unread_of result.result ≡ None → S.faults shelf.new ≡ S.faults shelf.old }
+    ensures write { result.result ≡ Err Refused.Write → Rose (K.faults out.old) (K.faults out.new) }
+    ensures unwritten { result.result ≢ Err Refused.Write
+        → K.faults out.new ≡ K.faults out.old }
+
+    ensures failures { S.failed shelf.new ≡ names_failed (unread_of result.result)
+        (files_named (texts words.now)) (S.failed shelf.old) }
+    ensures same { (name : List ℕ) → S.told shelf.new name ≡ S.told shelf.old name }
+{
+    let files = match load(alloc, words, shelf) {
+        Ok(files) => files,
+        Err(refused) => {
+            return Ended {
+                closed: None,
+                full: None,
+                result: Err(refused),
+            };
+        }
+    };
+    let Replayed { closed, ended } = replay(rt, alloc, files, gate);
+    let report = match ended {
+        Ok(report) => report,
+        Err(Stopped::Full(at)) => {
+            return Ended {
+                closed,
+                full: Some(at),
+                result: Err(Refused::Full { caller: at.caller }),
+            };
+        }
+        Err(Stopped::Memory) => {
+            return Ended {
+                closed,
+                full: None,
+                result: Err(Refused::Memory),
+            };
+        }
+    };
+    if let Err(refused) = write_report(alloc, &report, out) {
+        return Ended {
+            closed,
+            full: None,
+            result: Err(Refused::from(refused)),
+        };
+    }
+    Ended {
+        closed,
+        full: None,
+        result: Ok(()),
+    }
+}
+
+/// How the program ended.
+#[derive(Drop)]
+pub struct Outcome {
+    /// 0 where the whole report was written, else the status of what went wrong.
+    pub status: u8,
+    /// What is left of the heap of the replay, where one was made.
+    pub closed: Option<Closed<BookUsage>>,
+    /// At status 6, for whom the heap was full.
+    pub full: Option<FullAt>,
+}
+
+/// Tells `err` the line of the refusal in one piece, whatever becomes of it there. It takes no memory.
+pub fn tell<E: Sink>(refused: Refused, err: &mut E)
+    ensures line { IsTold refused (E.written err.old) (E.written err.new)
+        (E.faults err.old) (E.faults err.new) }
+    ensures put { E.puts err.new ≡ next_count (E.puts err.old) }
+{
+    let line = refused.message();
+    let _ = err.put(line.as_str().as_bytes());
+}
