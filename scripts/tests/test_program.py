@@ -58,11 +58,11 @@ class Program(Case):
         least = int(re.search(r"LEAST_MEMORY = (\d+)", content("scripts", "explain").decode())[1])
         for page in (content("docs", "TROUBLES.md").decode(), content("docs", "hm.1").decode()):
             self.assertIn(" %d MB of address space" % least, page)
-        for megabytes, status in ((least + 5, 0), (least - 5, 1)):
+        for megabytes, is_enough in ((least + 2, True), (least - 2, False)):
             limit = megabytes * 1000000
             done = self.hm("replay", path("demo", "first.csv"),
                            preexec_fn=lambda: resource.setrlimit(resource.RLIMIT_AS, (limit, limit)))
-            self.assertEqual((done.returncode, done.stderr), (status, b"hm: memory\n" if status else b""))
+            self.assertEqual(done.returncode == 0, is_enough, (megabytes, done.stderr))
 
     def test_a_full_device(self):
         with open("/dev/full", "wb") as full:
