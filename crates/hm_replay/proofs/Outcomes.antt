@@ -21,7 +21,12 @@ use Rattle.hm_replay.specs.declared.conclusion.Stopped.TheVariants as stopped
 use Rattle.hm_replay.specs.Loading.{AreHeld}
 use Rattle.hm_replay.specs.Concluding.{IfFull, TellsAll, WasFullAt}
 use Rattle.hm_replay.specs.Headline.{Headline, IsReplay, PutsReport, Replayed, line_count, text_of}
-use Rattle.hm_replay.specs.Outcomes.{HasFront, StoppedAt}
+use Rattle.hm_replay.specs.Outcomes.{HasFront, IsWhy, StoppedAt}
+use Rattle.hm_replay.specs.Refusals.{file_unread, names_failed, refused_write, status_of}
+use Rattle.hm_replay.specs.declared.refusal.Refused.TheVariants.{Memory, Words, Files, Text, Read, Write, Full, Long}
+use Rattle.hm_replay.specs.declared.refusal.Refused.{Refused}
+use Rattle.hm_orders.specs.declared.write.WriteRefused.{WriteRefused}
+use Rattle.hm_orders.specs.declared.write.WriteRefused.TheVariants as write
 
 -- where nothing is written, nothing is a front
 pub nothing_written : (n : ℕ) (closed : Option (Ended BookUsage)) (old : Option (List ℕ)) → HasFront n closed old old
@@ -35,20 +40,27 @@ nothing_written n (Some e) (Some bytes) = record {
 }
 
 -- closed cells are there where there is a report
-never_memory : {X : Type 0} (x : X) → (a : Result X Stopped) → a ≡ Ok x → a ≡ Err stopped.Memory → ⊥
+pub never_memory : {X : Type 0} (x : X) → (a : Result X Stopped) → a ≡ Ok x → a ≡ Err stopped.Memory → ⊥
 never_memory x a is other = ok_is_no_err x (sym is ∙ other)
   where
-    ok_is_no_err : {X : Type 0} (x : X) → Ok x ≡ Err stopped.Memory → ⊥
+    ok_is_no_err : {X : Type 0} (x : X) → ◌≡◌ {A = Result X Stopped} (Ok x) (Err stopped.Memory) → ⊥
     ok_is_no_err x e = absurd (cc)
 
-module _ (told : List ℕ → Option (List ℕ)) (files : List (List Order)) where
+-- nor where the heap was full
+pub never_full : {X : Type 0} (at : FullAt) → (a : Result X Stopped) → a ≡ Err (stopped.Full at) → a ≡ Err stopped.Memory → ⊥
+never_full at a is other = full_is_no_memory (sym is ∙ other)
+  where
+    full_is_no_memory : {X : Type 0} → ◌≡◌ {A = Result X Stopped} (Err (stopped.Full at)) (Err stopped.Memory) → ⊥
+    full_is_no_memory e = absurd (cc)
+
+module _ (told : List ℕ → Option (List ℕ)) (files : List (List Order)) (n : ℕ) (size : n ≡ length files) where
   -- the named files were replayed
   replayed_some : (names : List (List ℕ)) (e : Ended BookUsage) (report : Report) → AreHeld told names files
-      → IsReplay (length files) e → TellsAll files e.history report → Replayed told names (Some e)
+      → IsReplay n e → TellsAll files e.history report → Replayed told names (Some e)
   replayed_some names e report held heap tells = record {
     cells = e;
     closed_are = refl;
-    heap = subst (λ (n : ℕ). IsReplay n e) held.count heap;
+    heap = subst (λ (k : ℕ). IsReplay k e) (size ∙ held.count) heap;
     files = files;
     held = held;
     interleaves = tells.interleaves;
@@ -62,14 +74,14 @@ module _ (told : List ℕ → Option (List ℕ)) (files : List (List Order)) whe
       tells.report_is ∙ ap (λ (n : ℕ). report_of no_limits n (spelled e.history)) held.count
 
   module _ (report : Report) (closed : Option (Ended BookUsage)) (made : closed ≢ None)
-      (heap : IfSome closed (IsReplay (length files)))
+      (heap : IfSome closed (IsReplay n))
       (tells : IfSome closed (λ e. TellsAll files e.history report)) where
     pub replayed : (names : Option (List (List ℕ))) → IfSome names (λ ns. AreHeld told ns files)
         → IfSome names (λ ns. Replayed told ns closed)
     replayed None held = tt
     replayed (Some names) held = go closed made heap tells
       where
-        go : (closed : Option (Ended BookUsage)) → closed ≢ None → IfSome closed (IsReplay (length files))
+        go : (closed : Option (Ended BookUsage)) → closed ≢ None → IfSome closed (IsReplay n)
             → IfSome closed (λ e. TellsAll files e.history report) → Replayed told names closed
         go None made heap tells = absurd (made refl)
         go (Some e) made heap tells = replayed_some names e report held heap tells
@@ -78,10 +90,11 @@ module _ (told : List ℕ → Option (List ℕ)) (files : List (List Order)) whe
     pub headline : (names : Option (List (List ℕ))) → IfSome names (λ ns. AreHeld told ns files)
         → (old new : Option (List ℕ)) → new ≡ bytes_after (report_text report) old
         → IfSome names (λ ns. Headline told ns closed old new)
+    unfolding replayed_some
     headline None held old new written = tt
     headline (Some names) held old new written = go closed made heap tells
       where
-        go : (closed : Option (Ended BookUsage)) → closed ≢ None → IfSome closed (IsReplay (length files))
+        go : (closed : Option (Ended BookUsage)) → closed ≢ None → IfSome closed (IsReplay n)
             → IfSome closed (λ e. TellsAll files e.history report) → Headline told names closed old new
         go None made heap tells = absurd (made refl)
         go (Some e) made heap tells = record {
@@ -119,7 +132,7 @@ module _ (told : List ℕ → Option (List ℕ)) (files : List (List Order)) whe
 
   -- the heap was full for a caller
   pub stopped_at : (at : FullAt) (closed : Option (Ended BookUsage)) → closed ≢ None
-      → IfSome closed (IsReplay (length files)) → IfSome closed (λ e. WasFullAt files e.history at)
+      → IfSome closed (IsReplay n) → IfSome closed (λ e. WasFullAt files e.history at)
       → (names : Option (List (List ℕ))) → IfSome names (λ ns. AreHeld told ns files)
       → IfSome names (λ ns. StoppedAt told ns closed (Some at) at.caller)
   stopped_at at closed made heap was None held = tt
@@ -127,7 +140,7 @@ module _ (told : List ℕ → Option (List ℕ)) (files : List (List Order)) whe
   stopped_at at (Some e) made heap was (Some names) held = record {
     cells = e;
     closed_are = refl;
-    heap = subst (λ (n : ℕ). IsReplay n e) held.count heap;
+    heap = subst (λ (k : ℕ). IsReplay k e) (size ∙ held.count) heap;
     at = at;
     full_is = refl;
     caller_is = refl;
@@ -135,3 +148,38 @@ module _ (told : List ℕ → Option (List ℕ)) (files : List (List Order)) whe
     held = held;
     was = was;
   }
+
+-- nothing is a front, whatever the names
+pub nothing_named : (names : Option (List (List ℕ))) (closed : Option (Ended BookUsage)) (old : Option (List ℕ))
+    → IfSome names (λ ns. HasFront (length ns) closed old old)
+nothing_named None closed old = tt
+nothing_named (Some names) closed old = nothing_written (length names) closed old
+
+-- a report that was not written was one of the named files
+pub why_unwritten : (told : List ℕ → Option (List ℕ)) (names : Option (List (List ℕ)))
+    (closed : Option (Ended BookUsage)) (full : Option FullAt) (w : WriteRefused) (r : Refused) → r ≡ refused_write w
+    → IfSome names (λ ns. Replayed told ns closed) → IsWhy told names closed full r
+why_unwritten told names closed full write.Failed r is h = subst (IsWhy told names closed full) (sym is) h
+why_unwritten told names closed full write.Memory r is h = subst (IsWhy told names closed full) (sym is) tt
+
+-- where no file is unread, the failed names are as they were
+pub none_failed : (files : Option (List (List ℕ))) (names : Option (List (List ℕ)))
+    → names_failed None files names ≡ names
+none_failed None names = refl
+none_failed (Some all) names = refl
+
+-- so it is where the status is not that of a file that could not be read
+pub failed_same : (r : Refused) (files : Option (List (List ℕ))) (old new : Option (List (List ℕ))) → status_of r ≢ 4
+    → new ≡ names_failed (file_unread r) files old → new ≡ old
+failed_same Memory files old new other is = is ∙ none_failed files old
+failed_same Words files old new other is = is ∙ none_failed files old
+failed_same (Files count) files old new other is = is ∙ none_failed files old
+failed_same (Text file refusal) files old new other is = is ∙ none_failed files old
+failed_same (Read file) files old new other is = absurd (other refl)
+failed_same Write files old new other is = is ∙ none_failed files old
+failed_same (Full caller) files old new other is = is ∙ none_failed files old
+failed_same (Long file) files old new other is = is ∙ none_failed files old
+
+-- a text that is written whole is a front of itself
+pub whole_front : (text : List ℕ) (old new : Option (List ℕ)) → new ≡ bytes_after text old → AddsFront text old new
+whole_front text old new written = record { front = text; rest = []; is_front = append-nil text; adds = written }

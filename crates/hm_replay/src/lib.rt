@@ -11,5 +11,5 @@ mod report;
 mod words;
 
 pub use conclusion::FullAt;
-pub use outcome::{Outcome, tell};
+pub use outcome::{Outcome, run, tell};
 pub use refusal::Refused;

@@ -128,3 +128,72 @@ pub fn tell<E: Sink>(refused: Refused, err: &mut E)
     let line = refused.message();
     let _ = err.put(line.as_str().as_bytes());
 }
+
+/// Does what the words say: `replay FILE..` reads the files from the shelf, applies their orders to an empty book on a
+/// shared heap, those of each file in order and by a caller of their own, and writes the report to `out`. The callers
+/// work side by side, so the report is of one interleaving of the files. What goes wrong is told to `err` in one piece,
+/// and the status says what it was. A gate holds callers up before their orders, and has no part in any result.
+pub fn run<R: Threads + Sync, S: Shelf, K: Sink, E: Sink, G: Gate + Sync>(
+    rt: &R,
+    alloc: Global,
+    words: &[String],
+    shelf: &mut S,
+    out: &mut K,
+    err: &mut E,
+    gate: &G,
+) -> Outcome
+    ensures statuses { Contains (0 ∷ 1 ∷ 2 ∷ 3 ∷ 4 ∷ 5 ∷ 6 ∷ 7 ∷ []) result.status }
+
+    // What was done: one lawful history on the heap, and the report of the interleaving that it spells.
+    ensures headline { result.status ≡ 0 → IfSome (files_named (texts words.now)) (λ names.
+        Headline (S.told shelf.old) names result.closed (K.written out.old) (K.written out.new)) }
+    ensures heap { IfSome (files_named (texts words.now)) (λ names.
+        IfSome result.closed (IsReplay (length names))) }
+    ensures lines { result.status ≡ 0 → IfSome (files_named (texts words.now)) (λ names.
+        IfSome result.closed (λ e. PutsReport (length names) e (K.puts out.old) (K.puts out.new))) }
+    ensures front { IfSome (files_named (texts words.now)) (λ names.
+        HasFront (length names) result.closed (K.written out.old) (K.written out.new)) }
+    ensures untouched { result.status ≢ 0 → result.status ≢ 1 → result.status ≢ 5
+        → K.written out.new ≡ K.written out.old }
+    ensures silent { result.status ≢ 0 → result.status ≢ 1 → result.status ≢ 5
+        → K.puts out.new ≡ K.puts out.old }
+    ensures unmade { result.closed ≡ None → K.written out.new ≡ K.written out.old }
+
+    // When each other status comes; 1, want of memory, may come at any time, but hides no fault.
+    ensures why { result.status ≢ 0 → SaysWhy (S.told shelf.old) (files_named (texts words.now))
+        result.closed result.full result.status (S.failed shelf.old) (S.failed shelf.new)
+        (E.written err.old) (E.written err.new) (E.faults err.old) (E.faults err.new) }
+    ensures words { (result.status ≡ 2) ↔ (files_named (texts words.now) ≡ None) }
+    ensures files { IfSome (files_named (texts words.now)) (λ names.
+        most_files < length names → result.status ≡ 7) }
+    ensures read { result.status ≡ 4 → Rose (S.faults shelf.old) (S.faults shelf.new) }
+    ensures unread { result.status ≢ 4 → S.faults shelf.new ≡ S.faults shelf.old }
+    ensures write { result.status ≡ 5 → Rose (K.faults out.old) (K.faults out.new) }
+    ensures unwritten { result.status ≢ 5 → K.faults out.new ≡ K.faults out.old }
+
+    // What the shelf and the sink for errors are left with.
+    ensures failures { result.status ≢ 4 → S.failed shelf.new ≡ S.failed shelf.old }
+    ensures same { (name : List ℕ) → S.told shelf.new name ≡ S.told shelf.old name }
+    ensures untold { result.status ≡ 0 → err.new ≡ err.old }
+    ensures one_put { E.puts err.new ≡ (if result.status == 0
+        then E.puts err.old else next_count (E.puts err.old)) }
+{
+    let Ended {
+        closed,
+        full,
+        result,
+    } = replay_files(rt, alloc, words, shelf, out, gate);
+    let Err(refused) = result else {
+        return Outcome {
+            status: 0,
+            closed,
+            full,
+        };
+    };
+    tell(refused, err);
+    Outcome {
+        status: refused.status(),
+        closed,
+        full,
+    }
+}

@@ -14,5 +14,6 @@ fn main(rt: HostRuntime) -> ExitCode {
     let mut out = StreamSink::new(rt.stdout());
     let mut err = StreamSink::new(rt.stderr());
     let words = words_behind_name(&rt);
-    ExitCode::from(program(rt.alloc(), words, &mut shelf, &mut out, &mut err))
+    let outcome = program(&rt, rt.alloc(), words, &mut shelf, &mut out, &mut err);
+    ExitCode::from(outcome.status)
 }

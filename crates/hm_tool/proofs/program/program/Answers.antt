@@ -9,6 +9,6 @@ returns-clause-why g c =
     let ended = c.finish_report-status.ensures in
     let written = g.E.Sink.written in
     let faults = g.E.Sink.faults in
-    why-ended _ _ _ _ _ _ _ _ _ _ _ _ c.finish.ensures.written c.finish.ensures.faults _ ended.same ended.write
-    replayed.report (λ e. (ap written (replayed.untold e), ap faults (replayed.untold e))) replayed.why
+    why-ended _ _ _ _ _ _ _ _ _ _ _ _ _ _ _ _ _ c.finish.ensures.written c.finish.ensures.faults _ ended.same ended.write
+    replayed.headline replayed.failures (λ e. (ap written (replayed.untold e), ap faults (replayed.untold e))) replayed.why
     (λ e. (ap written (ended.quiet e), ap faults (ended.quiet e))) ended.told

@@ -1,0 +1,68 @@
+-- What the closed cells and the report say of the named files.
+use Rattle.std.proofs.Common.{rules, ◌≡◌, ◌∙◌, List, Option, Result, Some, None, Ok, Err, IfSome, IfOk, IfErr, length, map, sym, ap, subst}
+use Rattle.std.proofs.lemmas.List.{length-map}
+use Rattle.hm_orders.specs.declared.order.Order.{Order}
+use Rattle.hm_orders.specs.declared.report.Report.{Report}
+use Rattle.hm_replay.specs.declared.conclusion.Stopped.{Stopped}
+use Rattle.hm_replay.specs.declared.conclusion.Stopped.TheVariants as stopped
+use Rattle.hm_replay.specs.Concluding.{IfFull, TellsAll, WasFullAt}
+use Rattle.hm_replay.proofs.Outcomes.{front, headline, lines, never_full, never_memory, nothing_named, replayed, stopped_at, whole_front, why_unwritten}
+use Rattle.hm_replay.proofs.outcome.replay_files.Goals as goal
+
+pub returns-in-Err-Full-clause-why : goal.returns-in-Err-Full-clause-why
+returns-in-Err-Full-clause-why g c =
+    let files : List (List Order) = map (λ orders. orders.items) c.in-Ok.files.items in
+    let ran = c.replay-closed.ensures in
+    let is : c.replay-closed.result.ended ≡ Err (stopped.Full c.in-Err-Full.at) = search rules in
+    stopped_at _ files (length c.in-Ok.files.items) (sym (length-map c.in-Ok.files.items (λ orders. orders.items)))
+    c.in-Err-Full.at c.replay-closed.result.closed (λ none. never_full _ _ is (ran.unmade none)) ran.heap
+    (subst (λ (a : Result Report Stopped). IfSome c.replay-closed.result.closed (λ e. IfErr a (IfFull (WasFullAt files e.history))))
+    is ran.full) _ c.in-Ok.ensures.orders
+
+pub returns-in-Err-Full-clause-front : goal.returns-in-Err-Full-clause-front
+returns-in-Err-Full-clause-front g c = nothing_named _ _ _
+
+pub returns-in-Err-Memory-clause-front : goal.returns-in-Err-Memory-clause-front
+returns-in-Err-Memory-clause-front g c = nothing_named _ _ _
+
+pub returns-in-Err-write_report-clause-why : goal.returns-in-Err-write_report-clause-why
+returns-in-Err-write_report-clause-why g c =
+    let files : List (List Order) = map (λ orders. orders.items) c.in-Ok.files.items in
+    let ran = c.replay-closed.ensures in
+    let is = c.in-Ok-ended.is in
+    why_unwritten _ _ _ _ c.in-Err-write_report.refused _ c.from.ensures
+    (replayed _ files (length c.in-Ok.files.items) (sym (length-map c.in-Ok.files.items (λ orders. orders.items)))
+    c.in-Ok-ended.report c.replay-closed.result.closed (λ none. never_memory _ _ is (ran.unmade none)) ran.heap
+    (subst (λ (a : Result Report Stopped). IfSome c.replay-closed.result.closed (λ e. IfOk a (TellsAll files e.history)))
+    is ran.report) _ c.in-Ok.ensures.orders)
+
+pub returns-clause-headline : goal.returns-clause-headline
+returns-clause-headline g c =
+    let files : List (List Order) = map (λ orders. orders.items) c.in-Ok.files.items in
+    let ran = c.replay-closed.ensures in
+    let is = c.in-Ok-ended.is in
+    headline _ files (length c.in-Ok.files.items) (sym (length-map c.in-Ok.files.items (λ orders. orders.items)))
+    c.in-Ok-ended.report c.replay-closed.result.closed (λ none. never_memory _ _ is (ran.unmade none)) ran.heap
+    (subst (λ (a : Result Report Stopped). IfSome c.replay-closed.result.closed (λ e. IfOk a (TellsAll files e.history)))
+    is ran.report) _ c.in-Ok.ensures.orders _ _ c.in_default.ensures.written
+
+pub returns-clause-lines : goal.returns-clause-lines
+returns-clause-lines g c =
+    let files : List (List Order) = map (λ orders. orders.items) c.in-Ok.files.items in
+    let ran = c.replay-closed.ensures in
+    let is = c.in-Ok-ended.is in
+    lines _ files (length c.in-Ok.files.items) (sym (length-map c.in-Ok.files.items (λ orders. orders.items)))
+    c.in-Ok-ended.report c.replay-closed.result.closed (λ none. never_memory _ _ is (ran.unmade none)) ran.heap
+    (subst (λ (a : Result Report Stopped). IfSome c.replay-closed.result.closed (λ e. IfOk a (TellsAll files e.history)))
+    is ran.report) _ c.in-Ok.ensures.orders c.in_default.field-0 _ _ _ _
+    c.in_default.ensures.lines
+
+pub returns-clause-front : goal.returns-clause-front
+returns-clause-front g c =
+    let files : List (List Order) = map (λ orders. orders.items) c.in-Ok.files.items in
+    let ran = c.replay-closed.ensures in
+    let is = c.in-Ok-ended.is in
+    front _ files (length c.in-Ok.files.items) (sym (length-map c.in-Ok.files.items (λ orders. orders.items)))
+    c.in-Ok-ended.report c.replay-closed.result.closed (λ none. never_memory _ _ is (ran.unmade none)) ran.heap
+    (subst (λ (a : Result Report Stopped). IfSome c.replay-closed.result.closed (λ e. IfOk a (TellsAll files e.history)))
+    is ran.report) _ c.in-Ok.ensures.orders _ _ (whole_front _ _ _ c.in_default.ensures.written)
