@@ -96,8 +96,12 @@ class Program(Case):
 
     def test_the_example_of_the_readme(self):
         text = content("README.md").decode().split("## A report\n")[1].split("```")
-        rows = "".join(row + "\n" for row in re.findall("`(L,[^`]+)`", text[0]))
-        self.says(self.hm("replay", self.made(rows.encode())), 0, out=text[1][len("text\n"):].encode())
+        parts = [re.findall("`(L,[^`]+)`", part) for part in text[0].split("a second one")]
+        files = self.made_all("".join(row + "\n" for row in rows).encode() for rows in parts)
+        report = self.made(text[1][len("text\n"):].encode(), "report")
+        done = self.call(path("scripts", "report_check"), report, *files)
+        self.assertEqual((done.returncode, done.stderr), (0, b""))
+        self.is_sound(*files)
 
     def test_the_demo_file_is_the_one_that_the_gate_replays(self):
         self.assertEqual(content("demo", "first.csv"), content("crates", "hm_tool", "data", "first.csv"))
