@@ -1,12 +1,12 @@
 -- What a sink for errors is told.
-use Rattle.std.proofs.Common.{◌≡◌, ◌∙◌, ℕ, List, [], ◌∷◌, take, drop, Option, Result, Ok, Err, OnErr, Contains, inl, inr, refl, ap, append-nil, lit<}
+use Rattle.std.proofs.Common.{◌≡◌, ◌∙◌, ℕ, List, [], ◌∷◌, take, drop, Option, Some, None, IfSome, Result, Ok, Err, IfErr, OnErr, Contains, inl, inr, refl, sym, ap, subst, append-nil, lit<}
 use Rattle.std.proofs.lemmas.List.{take-append-drop}
 use Rattle.hm_edge.specs.declared.sink.SinkFailed.{SinkFailed}
 use Rattle.hm_edge.specs.Faults.{Rose}
 use Rattle.hm_edge.specs.Sinks.{bytes_after, part_put}
 use Rattle.hm_replay.specs.declared.refusal.Refused.{Refused}
 use Rattle.hm_replay.specs.declared.refusal.Refused.TheVariants.{Memory, Words, Files, Text, Read, Write, Full, Long}
-use Rattle.hm_replay.specs.Refusals.{IsTold, message_of, status_of}
+use Rattle.hm_replay.specs.Refusals.{IsLate, IsTold, message_of, status_of}
 
 -- one put of the line of a refusal tells it
 pub told_by_put : {X : Type 0} (refused : Refused) (line : List ℕ) (result : Result X SinkFailed) (old new : Option (List ℕ)) (faults after : ℕ)
@@ -31,3 +31,23 @@ is_status (Read file) = (4, lit< tt, refl)
 is_status Write = (5, lit< tt, refl)
 is_status (Full caller) = (6, lit< tt, refl)
 is_status (Long file) = (7, lit< tt, refl)
+
+-- those that come late have these
+pub is_late_status : (refused : Refused) → IsLate refused → Contains (0 ∷ 1 ∷ 5 ∷ 6 ∷ []) (status_of refused)
+is_late_status Memory h = (1, lit< tt, refl)
+is_late_status Words h = absurd h
+is_late_status (Files count) h = absurd h
+is_late_status (Text file refusal) h = absurd h
+is_late_status (Read file) h = absurd h
+is_late_status Write h = (2, lit< tt, refl)
+is_late_status (Full caller) h = (3, lit< tt, refl)
+is_late_status (Long file) h = absurd h
+
+-- where there is a heap, the status is one of these
+pub closed_late : {X : Type 0} (closed : Option X) (answer : Result (Unit {0}) Refused) (refused : Refused) (status : ℕ)
+    → answer ≡ Err refused → status ≡ status_of refused → IfSome closed (λ _. IfErr answer IsLate)
+    → IfSome closed (λ _. Contains (0 ∷ 1 ∷ 5 ∷ 6 ∷ []) status)
+closed_late None answer refused status is has h = tt
+closed_late (Some x) answer refused status is has h =
+    subst (λ (n : ℕ). Contains (0 ∷ 1 ∷ 5 ∷ 6 ∷ []) n) (sym has)
+    (is_late_status refused (subst (λ (r : Result (Unit {0}) Refused). IfErr r IsLate) is h))

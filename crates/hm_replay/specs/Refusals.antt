@@ -101,6 +101,17 @@ IsEarly Write = ⊥
 IsEarly (Full caller) = ⊥
 IsEarly (Long file) = Unit {0}
 
+-- the refusals that may come once there is a heap
+abbrev pub IsLate : Refused → Type 0
+IsLate Memory = Unit {0}
+IsLate Words = ⊥
+IsLate (Files count) = ⊥
+IsLate (Text file refusal) = ⊥
+IsLate (Read file) = ⊥
+IsLate Write = Unit {0}
+IsLate (Full caller) = Unit {0}
+IsLate (Long file) = ⊥
+
 -- the refusals of the words alone: they name no file, or too many
 abbrev pub IsOfWords : Refused → Type 0
 IsOfWords Memory = ⊥

@@ -5,7 +5,7 @@ ghost use Rattle.hm_replay.specs.Words.{files_named, texts};
 ghost use Rattle.hm_replay.specs.Loading.{most_files};
 ghost use Rattle.hm_replay.specs.Headline.{Headline, IsReplay, PutsReport};
 ghost use Rattle.hm_replay.specs.Outcomes.{HasFront, IsWhy, SaysWhy};
-ghost use Rattle.hm_replay.specs.Refusals.{HasBegun, IsTold, names_failed, unread_of};
+ghost use Rattle.hm_replay.specs.Refusals.{HasBegun, IsLate, IsTold, names_failed, unread_of};
 
 use crate::conclusion::{FullAt, Stopped};
 use crate::load::load;
@@ -49,6 +49,8 @@ fn replay_files<R: Threads + Sync, S: Shelf, K: Sink, G: Gate + Sync>(
     ensures silent { IfErr result.result (λ refused.
         HasBegun refused ⊎ (K.puts out.new ≡ K.puts out.old)) }
     ensures unmade { result.closed ≡ None → K.written out.new ≡ K.written out.old }
+    ensures closed { IfSome result.closed (λ _. IfErr result.result IsLate) }
+    ensures full { IfSome result.full (λ at. result.result ≡ Err (Refused.Full at.caller)) }
 
     ensures why { IfErr result.result (IsWhy (S.told shelf.old) (files_named (texts words.now))
         result.closed result.full) }
@@ -158,6 +160,9 @@ pub fn run<R: Threads + Sync, S: Shelf, K: Sink, E: Sink, G: Gate + Sync>(
     ensures silent { result.status ≢ 0 → result.status ≢ 1 → result.status ≢ 5
         → K.puts out.new ≡ K.puts out.old }
     ensures unmade { result.closed ≡ None → K.written out.new ≡ K.written out.old }
+    ensures closed { IfSome result.closed
+        (λ _. Contains (0 ∷ 1 ∷ 5 ∷ 6 ∷ []) result.status) }
+    ensures full { IfSome result.full (λ _. result.status ≡ 6) }
 
     // When each other status comes; 1, want of memory, may come at any time, but hides no fault.
     ensures why { result.status ≢ 0 → SaysWhy (S.told shelf.old) (files_named (texts words.now))

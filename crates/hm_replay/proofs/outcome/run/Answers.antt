@@ -5,6 +5,7 @@ use Rattle.hm_replay.specs.Outcomes.{IsWhy}
 use Rattle.hm_replay.specs.Refusals.{names_failed, unread_of}
 use Rattle.hm_replay.specs.Words.{files_named, texts}
 use Rattle.hm_replay.proofs.Outcomes.{failed_same}
+use Rattle.hm_replay.proofs.Told.{closed_late}
 use Rattle.hm_replay.proofs.outcome.run.Goals as goal
 
 pub returns-clause-failures : goal.returns-clause-failures
@@ -26,3 +27,7 @@ returns-clause-why g c some = record {
       (g.S.Shelf.failed c.args.shelf.now)) c.in-Err.is;
   line = c.tell.ensures.line;
 }
+
+pub returns-clause-closed : goal.returns-clause-closed
+returns-clause-closed g c =
+    closed_late _ _ c.in-Err.refused _ c.in-Err.is c.status.ensures c.replay_files-closed.ensures.closed
