@@ -4,10 +4,9 @@ import re
 from collections import Counter, namedtuple
 
 from calls import Bad, named, read_bytes, shown
-from rows import MOST_NUMBER, MOST_ROWS
+from rows import MOST_FILES, MOST_NUMBER, MOST_ROWS
 
-MOST_REPORT = 268435456  # bytes of a report: of one file it has less than 140 million
-MOST_FILES = 64  # of a report
+MOST_REPORT = 268435456  # bytes of a report, many times what the heap of a replay has room for
 FATES = ("filled", "rested", "repeated", "dropped", "cancelled", "unknown", "denied")
 TRADES = ("filled", "rested", "dropped")  # the fates with which an order may have fills
 NUMBER = b" (0|[1-9][0-9]{0,19})"

@@ -4,7 +4,7 @@ from collections import namedtuple
 
 from calls import Bad, named, read_bytes
 
-MOST_BYTES, MOST_ROWS, MOST_NUMBER = 67108864, 1000000, 4294967295
+MOST_FILES, MOST_BYTES, MOST_ROWS, MOST_NUMBER = 8, 67108864, 1000000, 4294967295
 
 Row = namedtuple("Row", "id side price quantity")
 
@@ -50,3 +50,10 @@ def orders_of(path, file):
     except Refused as refused:
         raise Bad("hm refuses row %d of %s, file %d, by its part %s" % (
             refused.args[0], named(path), file, refused.args[1]))
+
+
+def files_of(paths):
+    """The orders of each file of a replay."""
+    if len(paths) > MOST_FILES:
+        raise Bad("hm replays at most %d files together, and there are %d" % (MOST_FILES, len(paths)))
+    return [orders_of(path, file) for file, path in enumerate(paths, 1)]

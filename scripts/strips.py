@@ -32,7 +32,7 @@ def ticks(orders, slot, high):
     for order in orders:
         x, y = LEFT + (order.root - .5) * slot - wide / 2, LANES[0] + (order.file - 1) * high
         told = "order %d: file %d, row %d, %s" % order
-        yield bar(x, y + 3, wide, max(high - 6, .5), order.fate, told)
+        yield bar(x, y + 3, wide, high - 6, order.fate, told)
 
 
 def columns(orders, size):
@@ -57,7 +57,7 @@ def gathered_ticks(orders, slot, high, size):
             first.root, last.root, file, ", ".join("%d %s" % (counts[fate], fate) for fate in fates))
         y = LANES[0] + file * high - 1
         for fate in fates:
-            tall = max(high - 2, .5) * counts[fate] / max(most, sum(counts.values()))
+            tall = (high - 2) * counts[fate] / max(most, sum(counts.values()))
             y -= tall
             parts.append(bar(LEFT + (first.root - 1) * slot, y, (last.root - first.root + 1) * slot, tall, fate, told))
     return parts, most
@@ -70,11 +70,10 @@ def lanes(report):
     high = (LANES[1] - LANES[0]) / len(report.board)
     for file, rows in enumerate(report.board):
         y = LANES[0] + file * high
-        parts.append(bar(LEFT, y + 1, RIGHT - LEFT, max(high - 2, .5), "lane"))
-        if file % math.ceil(15 / high) == 0:
-            name_y = y + high / 2 + (-3 if high >= 36 else 4)
-            parts.append(text(LEFT - 8, name_y, "file %d" % (file + 1), "end"))
-            parts += [text(LEFT - 8, name_y + 16, many(rows, "order"), "end")] if high >= 36 else []
+        name_y = y + high / 2 + (-3 if high >= 36 else 4)
+        parts.append(bar(LEFT, y + 1, RIGHT - LEFT, high - 2, "lane"))
+        parts.append(text(LEFT - 8, name_y, "file %d" % (file + 1), "end"))
+        parts += [text(LEFT - 8, name_y + 16, many(rows, "order"), "end")] if high >= 36 else []
     size = math.ceil(len(report.orders) / MOST)
     told = "Orders: each tick is one order, in the lane of its file" if report.orders else "Orders"
     if size > 1:

@@ -6,8 +6,14 @@ import subprocess
 import tempfile
 import unittest
 
+from replay import Book
+
 TOP = os.path.dirname(os.path.dirname(os.path.dirname(os.path.realpath(__file__))))
 PROGRAM = os.path.join(TOP, "crates", "hm_tool", "out", "hm_tool")
+LONGEST = 67108864  # bytes of a file
+ROW = b"L,1,B,10,5\n"
+# An order takes two versions at least, and a file has 4096.
+PAIRS = b"L,1,B,10,5\nL,2,S,10,5\n" * 1100
 
 
 def path(*parts):
@@ -49,6 +55,19 @@ class Case(unittest.TestCase):
         """A call of the program."""
         return self.call(PROGRAM, *words, **more)
 
+    def made_all(self, datas):
+        """The names of files that hold these bytes, and of one that is not there for None."""
+        return [os.path.join(self.folder, "missing") if data is None else self.made(data, "file%d" % file)
+                for file, data in enumerate(datas, 1)]
+
+    def is_sound(self, *files):
+        """A replay of the files prints a report that the plain replay agrees with; it is answered."""
+        done = self.hm("replay", *files)
+        self.assertEqual((done.returncode, done.stderr), (0, b""))
+        check = self.script("report_check", self.made(done.stdout, "report"), *files)
+        self.assertEqual((check.returncode, check.stderr), (0, b""), check.stdout)
+        return done.stdout
+
     def script(self, name, *words, **more):
         """A call of a script."""
         return self.call(path("scripts", name), *words, **more)
@@ -66,6 +85,27 @@ class Case(unittest.TestCase):
         self.assertFalse(done.stdout)
         for word in words:
             self.assertIn(word, error)
+
+
+def in_turn(files):
+    """The report of files of rows that are applied in turn, a row of each."""
+    return report_of(files, [(file, row) for row in range(max(map(len, files))) for file in range(len(files))
+                             if row < len(files[file])])
+
+
+def one_by_one(files):
+    """The report of files of rows that are applied one file after another."""
+    return report_of(files, [(file, row) for file in range(len(files)) for row in range(len(files[file]))])
+
+
+def report_of(files, places):
+    """The report of files of rows that are applied in this order."""
+    book, lines = Book(), []
+    for file, row in places:
+        lines += book.apply(file + 1, row + 1, files[file][row])
+    lines += ["board" + "".join(" %d" % len(rows) for rows in files),
+              "end %d %d %d" % (book.root, book.fills, len(book.left))]
+    return "".join(line + "\n" for line in lines).encode()
 
 
 class Worked:
@@ -97,6 +137,14 @@ def worked():
             yield Worked("%d" % number, data.encode(), refusal=re.search(r"`(hm: [^`]+)`", prose)[1])
         else:
             yield from worked_rows(number, re.findall(r"`([^`]+)`", prose))
+
+
+def worked_pair():
+    """The two worked files of docs/FORMATS.md, and the two reports that a replay of both may print."""
+    text = content("docs", "FORMATS.md").decode().split("## Two worked files together\n")[1].split("\n## ")[0]
+    blocks = re.findall(r"(?m)(?:^    .+\n)+", text)
+    first, second, *reports = [re.sub("(?m)^    ", "", block).encode() for block in blocks]
+    return (first, second), reports
 
 
 def worked_rows(number, marked):

@@ -3,33 +3,41 @@ import os
 import shutil
 import sys
 
-from common import Case, content, path
+from common import Case, content, in_turn, one_by_one, path
+from rows import files_of
 
 TOOLS = ("awk", "bash", "cat", "dirname", "env", "find", "mkdir", "mktemp", "mv", "readlink", "rm", "tail", "tee",
          "touch")
-# What stands in the toolchain's place: it notes its calls, and builds a program that prints the demo's report.
+# What stands in the toolchain's place: it notes its calls, and builds a program that prints the demo's report, and for
+# two files one and the other report by turns.
 RT = b"""#!/bin/bash
 echo "${PWD##*/} $*" >>"$NOTES"
 echo "rt: many words"
 if [ "${PWD##*/}" = "$FAILS" ]; then echo "rt: not proved" >&2; exit 1; fi
 if [ "$1" = run ]; then mkdir -p out; cp "$MADE" out/hm_tool; chmod +x out/hm_tool; fi
 """
-PROGRAM = b'#!/bin/bash\ncat "%b"\n'
+PROGRAM = b"""#!/bin/bash
+cd "%b"
+if [ $# -lt 3 ]; then cat first; elif [ -e turn ]; then rm turn; cat one; else >turn; cat other; fi
+"""
 CRATES = b"# Some.\nlow:\nother: low\nmiddle: low kit\nhm_tool: middle low\nlast: hm_tool\n"
-REPORT = path("crates", "hm_tool", "stdout")
 
 
 class Build(Case):
     def setUp(self):
         """A repository with a demo and some crates, and the tools that it needs."""
         super().setUp()
-        for name in ("bin", "tools", "demo", "crates", ".ci"):
+        for name in ("bin", "tools", "demo", "demo/two", "crates", ".ci"):
             os.mkdir(os.path.join(self.folder, name))
         for name in ("low", "other", "middle", "hm_tool", "last"):
             os.mkdir(os.path.join(self.folder, "crates", name))
-        for name in ("hm", "demo/run", "demo/first.csv", ".ci/run"):
+        for name in ("hm", "demo/run", "demo/first.csv", "demo/two/a.csv", "demo/two/b.csv", ".ci/run"):
             shutil.copy(path(name), os.path.join(self.folder, name))
         os.symlink(path("scripts"), self.folder + "/scripts")
+        two = files_of([path("demo", "two", "a.csv"), path("demo", "two", "b.csv")])
+        for name, report in (("first", content("crates", "hm_tool", "stdout")), ("one", one_by_one(two)),
+                             ("other", in_turn(two))):
+            self.made(report, name)
         self.made(CRATES, "crates.txt")
         os.chmod(self.made(RT, "bin/rt"), 0o755)
         for name in TOOLS + ("cp", "chmod"):
@@ -42,7 +50,7 @@ class Build(Case):
     def alone(self, program, *words, **more):
         """A call that finds no tool but these."""
         places = {"PATH": "%s/bin:%s/tools" % (self.folder, self.folder), "NOTES": self.folder + "/notes",
-                  "MADE": self.made(PROGRAM % os.fsencode(REPORT), "made"), **more}
+                  "MADE": self.made(PROGRAM % os.fsencode(self.folder), "made"), **more}
         return self.call(os.path.join(self.folder, program), *words, env=places)
 
     def test_a_build_says_which_crate_it_is_at(self):
@@ -65,6 +73,16 @@ class Build(Case):
         for name, wanted in (("first.svg", content("demo", "first.svg")), ("out/first.txt", done.stdout)):
             with open(os.path.join(self.folder, "demo", name), "rb") as file:
                 self.assertEqual(file.read(), wanted)
+        self.assertEqual(sorted(os.listdir(self.folder + "/demo/out")), ["first.txt", "two.svg", "two.txt"])
+        self.assertIn(b"each sound by scripts/report_check; distinct reports: 2; ", done.stderr)
+        with open(self.folder + "/demo/out/two.txt") as kept, open(self.folder + "/one") as last:
+            self.assertEqual(kept.read(), last.read())
+
+    def test_demo_run_keeps_no_report_of_two_files_that_is_not_sound(self):
+        self.made(content("crates", "hm_tool", "stdout"), "one")
+        done = self.alone("demo/run")
+        self.assertEqual(done.returncode, 70)
+        self.assertIn(b"and there should be ", done.stderr.splitlines()[-1])
         self.assertEqual(os.listdir(self.folder + "/demo/out"), ["first.txt"])
 
     def test_demo_run_leaves_what_was_there_where_it_fails(self):

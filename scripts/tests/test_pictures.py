@@ -4,9 +4,8 @@ import random
 import re
 import xml.etree.ElementTree as tree
 
-from common import Case, content, path
+from common import Case, content, in_turn, path
 from formats import FATES, read_report
-from replay import Book
 from rows import Row
 
 SVG = "{http://www.w3.org/2000/svg}"
@@ -16,18 +15,6 @@ SIGHTS = [((.367, .861, -.228), (.280, .673, .047), (-.012, .043, .969)),
           ((.152, 1.053, -.205), (.115, .786, .099), (-.004, -.048, 1.052)),
           ((1.256, -.077, -.179), (-.078, .931, .148), (.005, .691, .304)),
           ((1, 0, 0), (0, 1, 0), (0, 0, 1))]
-
-
-def replay(files):
-    """The report of files of rows, played in turn."""
-    book, lines, done = Book(), [], [0] * len(files)
-    for row in range(max(map(len, files))):
-        for file, rows in enumerate(files, 1):
-            if row < len(rows):
-                done[file - 1] += 1
-                lines += book.apply(file, row + 1, rows[row])
-    lines += ["board" + " %d" * len(files) % tuple(done), "end %d %d %d" % (book.root, book.fills, len(book.left))]
-    return "".join(line + "\n" for line in lines).encode()
 
 
 def rows_at_random(count, seed):
@@ -105,14 +92,14 @@ class Pictures(Case):
 
     def test_two_fills_of_one_price_and_order_are_both_seen(self):
         rows = [Row(1, "B", 10, 3), Row(2, "B", 10, 3), Row(3, "S", 10, 6)]
-        circles = [it for it in self.marks(self.picture(replay([rows])), "circle", "fill") if len(it)]
+        circles = [it for it in self.marks(self.picture(in_turn([rows])), "circle", "fill") if len(it)]
         self.assertEqual(len(circles), 2)
         self.assertGreater(abs(float(circles[0].get("cx")) - float(circles[1].get("cx"))), 4)
 
     def test_best_bid_and_ask_run_where_the_files_are_named(self):
         rows = [Row(1, "B", 10, 3), Row(2, "S", 12, 3), Row(3, "B", 11, 6), Row(4, "S", 10, 6)]
         file = self.made("".join("L,%d,%s,%d,%d\n" % row for row in rows).encode(), "orders")
-        report = replay([rows])
+        report = in_turn([rows])
         found = self.picture(report, file)
         (bid,), (ask,) = self.marks(found, "path", "bid"), self.marks(found, "path", "ask")
         self.assertEqual((bid.get("d").count("V"), ask.get("d").count("V")), (2, 0))
@@ -124,7 +111,7 @@ class Pictures(Case):
 
     def test_many_orders_are_gathered_and_the_tallest_bar_fills_its_lane(self):
         files = [rows_at_random(2000, seed) for seed in range(8)]
-        found = self.picture(replay(files))
+        found = self.picture(in_turn(files))
         self.assertIn("Orders, gathered: each column is 32 orders", self.picture_text)
         tall = {}
         for fate in FATES:
@@ -140,12 +127,12 @@ class Pictures(Case):
     def test_what_a_plain_replay_prints_is_a_report(self):
         for seed in range(20):
             files = [rows_at_random(seed * 7, seed + file) for file in range(1 + seed % 3)]
-            report = read_report(self.made(replay(files) if seed else b"board 0\nend 0 0 0\n"))
+            report = read_report(self.made(in_turn(files)))
             self.assertEqual(report.board, [seed * 7] * len(files))
 
     def test_odd_sizes(self):
         wide = [Row(at, "BS"[at % 2], 4294967295 if at % 3 else 1, 4294967295) for at in range(40)]
         for rows in (wide[:1], wide[1:2], wide, [Row(1, "B", 1, 1)] * 600):
             file = self.made("".join("L,%d,%s,%d,%d\n" % row for row in rows).encode(), "orders")
-            self.picture(replay([rows]), file)
-        self.picture(replay([[Row(at, "B", 1, 1)] for at in range(64)]))
+            self.picture(in_turn([rows]), file)
+        self.picture(in_turn([[Row(at, "B", 1, 1)] for at in range(8)]))

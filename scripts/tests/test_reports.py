@@ -4,12 +4,13 @@ import random
 import xml.etree.ElementTree as tree
 
 from calls import Bad
-from common import Case, worked
+from common import Case, worked, worked_pair
 from formats import read_report
 from replay import Unsound, Walk
 from rows import orders_of
 
 ROWS = b"L,1,B,10,5\nL,2,S,9,3\n"
+PAIR = b"order 1 1 1 rested\norder 2 2 1 filled\nfill 1 2 1 10 5\nboard 1 1\nend 2 1 0\n"
 GOOD = b"order 1 1 1 rested\norder 2 1 2 filled\nfill 1 2 1 10 3\nboard 2\nend 2 1 1\n"
 TWELVE = b"1" + b"0" * 11  # more than a price or a quantity may be
 WIDE = b"18446744073709551616"  # more than 64 bits hold
@@ -38,8 +39,9 @@ BROKEN = [
     ("a quantity too great", GOOD.replace(b"10 3", b"10 4294967296"), "that is no quantity"),
     ("a price of 65 bits", GOOD.replace(b"1 10 3", b"1 %b 3" % WIDE), "that is no price"),
     ("a root number of 65 bits", GOOD.replace(b"order 2", b"order " + WIDE), "order 2 comes next"),
-    ("a file of 65 bits", GOOD.replace(b"2 1 2 f", b"2 %b 1 f" % WIDE), "at most 64 files"),
-    ("the file 0", GOOD.replace(b"2 1 2 f", b"2 0 1 f"), "at most 64 files"),
+    ("a file of 65 bits", GOOD.replace(b"2 1 2 f", b"2 %b 1 f" % WIDE), "at most 8 files"),
+    ("the file 0", GOOD.replace(b"2 1 2 f", b"2 0 1 f"), "at most 8 files"),
+    ("the file 9", GOOD.replace(b"2 1 2 f", b"2 9 1 f"), "at most 8 files"),
     ("a number of many digits", GOOD.replace(b"end 2", b"end " + b"2" * 9999), "an end line has to follow"),
     ("a row twice", GOOD.replace(b"2 1 2 f", b"2 1 1 f"), "line 2 is 'order 2 1 1 filled', but the rows"),
     ("a row left out", GOOD.replace(b"2 1 2 f", b"2 1 3 f"), "the rows of a file come in turn"),
@@ -48,7 +50,10 @@ BROKEN = [
     ("a filled order without a fill", GOOD.replace(b"fill 1 2 1 10 3\n", b""), "line 3 is 'board 2', but an order"),
     ("a wrong board line", GOOD.replace(b"board 2", b"board 1"), "line 4 is 'board 1', but it does not count"),
     ("a board of no file", GOOD.replace(b"board 2", b"board"), "line 4 is 'board'"),
-    ("a board of 65 files", GOOD.replace(b"board 2", b"board 2" + b" 0" * 64), "line 4 is 'board 2 0 0"),
+    ("a board of nine files", GOOD.replace(b"board 2", b"board 2" + b" 0" * 8), "line 4 is 'board 2 0 0"),
+    ("a board that lacks a file", PAIR.replace(b"board 1 1", b"board 2"), "line 4 is 'board 2', but it does not count"),
+    ("a board of swapped files", PAIR.replace(b"board 1 1", b"board 2 0"), "line 4 is 'board 2 0', but it does not"),
+    ("a row of the other file", PAIR.replace(b"2 2 1 f", b"2 2 2 f"), "the rows of a file come in turn"),
     ("more at rest than orders", GOOD.replace(b"end 2 1 1", b"end 2 1 3"), "from 0 to 1 orders can rest"),
     ("more at rest than rested", GOOD.replace(b"end 2 1 1", b"end 2 1 2"), "from 0 to 1 orders can rest"),
     ("a maker that did not rest", GOOD[:GOOD.index(b"board")] + b"order 3 1 3 filled\nfill 2 3 2 9 1\n",
@@ -165,12 +170,42 @@ class Reports(Case):
         texts = [text.text for text in picture.iter("{http://www.w3.org/2000/svg}text")]
         self.assertIn("file 2", texts)
 
+    def test_either_report_of_the_two_worked_files_is_sound(self):
+        (first, second), reports = worked_pair()
+        files = self.made(first, "a"), self.made(second, "b")
+        self.assertEqual((reports[0], len(set(reports))), (PAIR, 2))
+        for report in reports:
+            with self.subTest(report):
+                done = self.script("report_check", self.made(report, "report"), *files)
+                self.assertEqual((done.returncode, done.stderr), (0, b""), done.stdout)
+                self.assertEqual(self.script("report_check", self.folder + "/report", *files[::-1]).returncode, 1)
+                for words in (files, ()):
+                    picture = self.script("report_svg", self.folder + "/report", *words).stdout
+                    texts = [text.text for text in tree.fromstring(picture).iter("{http://www.w3.org/2000/svg}text")]
+                    self.assertIn("2 orders of 2 files, 1 fill; in the end 0 of the 1 rested order still rest", texts)
+                self.says(self.script("report_csv", self.folder + "/report", self.folder + "/tables"), 0)
+                with open(self.folder + "/tables/orders.csv") as table:
+                    self.assertEqual({row.split(",")[1] for row in table.read().splitlines()[1:]}, {"1", "2"})
+        mixed = self.made(reports[0].replace(b"10 5", b"9 5"), "report")
+        done = self.script("report_check", mixed, *files)
+        self.assertEqual((done.returncode, b"line 3 of " in done.stdout), (1, True))
+
+    def test_files_without_rows_and_eight_files(self):
+        files = [self.made(b"L,1,B,10,1\n" if file % 2 else b"", "file%d" % file) for file in range(8)]
+        report = b"".join(b"order %d %d 1 rested\n" % pair for pair in ((1, 8), (2, 2), (3, 6), (4, 4)))
+        report = self.made(report + b"board 0 1 0 1 0 1 0 1\nend 4 0 4\n")
+        self.assertEqual(self.script("report_check", report, *files).returncode, 0)
+        self.assertIn(b"file 8", self.script("report_svg", report, *files).stdout)
+        for script in ("report_check", "report_svg"):
+            self.is_refused(self.script(script, report, *files, files[0]), "at most 8 files together, and there are 9")
+
     def test_files_that_cannot_be_read(self):
         report, missing = self.made(GOOD), self.folder + "/missing"
         for script, words in (("report_svg", [missing]), ("report_svg", [self.folder]),
                               ("report_svg", [b"\xff"]), ("report_csv", [missing, self.folder]),
                               ("report_csv", [report, report]),
                               ("report_check", [missing, missing]), ("report_check", [report, missing]),
+                              ("report_check", [report, self.made(ROWS, "orders"), missing]),
                               ("report_svg", []), ("report_csv", [report]), ("report_check", [report]),
                               ("report_svg", ["--frob", report])):
             with self.subTest(script=script, words=words):

@@ -1,10 +1,12 @@
 """The gate's counts, the paths that documents name, and the words of scripts."""
 import os
 import re
+import shutil
 
-from common import Case, content, path
+from common import Case, content, in_turn, path
+from rows import Row
 
-SCRIPTS = ("bench", "explain", "ops", "report_check", "report_csv", "report_svg", "test")
+SCRIPTS = ("bench", "bench_files", "explain", "ops", "report_check", "report_csv", "report_svg", "test")
 DOCUMENTS = ["README.md", "HACKING.md"] + sorted("docs/" + name for name in os.listdir(path("docs")))
 # A path begins with a name at the top of the repository. NAME and STORY stand for any name.
 PATH = re.compile(r"(?<![\w./-])(?:(?:\.ci|crates|demo|docs|scripts)/[\w./-]*\w|HACKING\.md|README\.md)")
@@ -86,6 +88,24 @@ class Repository(Case):
             with self.subTest(words=words, more=more):
                 done = self.script("bench", *words, env={**places, **more}, cwd=self.folder)
                 self.is_refused(done, "bench: ")
+
+    def test_programs_are_measured_on_a_file_that_is_cut_into_several(self):
+        shutil.copytree(path("scripts"), self.folder + "/scripts", ignore=shutil.ignore_patterns("__pycache__"))
+        rows = self.made(b"L,1,B,10,5\n\nL,2,B,10,1\nL,1,S,9,5\n", "rows")
+        files = [[Row(1, "B", 10, 5)], [Row(2, "B", 10, 1), Row(1, "S", 9, 5)]]
+        report = in_turn(files).decode().rstrip("\n")
+        for name in ("crates/hm_tool/out/hm_tool", "peer"):
+            self.program(name, report, 0)
+        done = self.call(self.folder + "/scripts/bench_files", "--repeats", "3", rows, self.folder + "/peer")
+        self.assertEqual((done.returncode, done.stderr), (0, b""))
+        self.assertRegex(done.stdout, rb"^3 orders in 2 files, 3 runs.*\n.*\nhm_tool: [0-9.() ]+; 1.00; 1\npeer: .*; 1\n$")
+        self.program("unsound", report.replace("filled", "rested"), 0)
+        self.program("failing", "", 6)
+        for words, why in (([self.folder + "/unsound"], "printed a report whose line 3 "), (["--files", "9"], "--files"),
+                           ([self.folder + "/failing"], "ended with 6: it said nothing"), (["--files", "0"], "--files"),
+                           ([self.folder], "cannot be run: Permission denied"), (["--repeats", "x"], "--repeats")):
+            with self.subTest(words):
+                self.is_refused(self.call(self.folder + "/scripts/bench_files", rows, *words), "bench_files: ", why)
 
     def test_the_bench_gets_the_built_program(self):
         self.made(b"import sys\nprint(' '.join(sys.argv[1:]))\nsys.exit(7)\n", "bench.py")

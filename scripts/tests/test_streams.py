@@ -6,7 +6,7 @@ import sys
 
 from common import Case, content, path
 
-SCRIPTS = ("bench", "explain", "ops", "report_check", "report_csv", "report_svg", "test")
+SCRIPTS = ("bench", "bench_files", "explain", "ops", "report_check", "report_csv", "report_svg", "test")
 REPORT, ORDERS = path("crates", "hm_tool", "stdout"), path("demo", "first.csv")
 CALLS = [["report_check", REPORT, ORDERS], ["report_svg", REPORT, ORDERS], ["explain", "hm: write", "replay", "f"]]
 CALLS += [[name, "--help"] for name in SCRIPTS]
