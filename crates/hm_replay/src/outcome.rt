@@ -202,3 +202,6 @@ pub fn run<R: Threads + Sync, S: Shelf, K: Sink, E: Sink, G: Gate + Sync>(
         full,
     }
 }
+
+#[cfg(test)]
+mod tests;
