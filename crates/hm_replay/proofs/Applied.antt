@@ -1,6 +1,6 @@
 -- How many orders all callers of a replay have applied.
-use Rattle.std.proofs.Common.{◌≡◌, ℕ, zero, suc, ◌+◌, ◌*◌, ◌≤◌, ◌<◌, ◌==◌, Bool, true, false, cond, nat_le, List, [], ◌∷◌, length, Some, slice_get, get_or, refl, sym, ap, ◌∙◌, subst, arith}
-use Rattle.std.specs.List.{All, count_by, sum_by}
+use Rattle.std.proofs.Common.{◌≡◌, ℕ, suc, ◌+◌, ◌≤◌, ◌<◌, ◌==◌, Bool, true, false, cond, nat_le, List, [], ◌∷◌, length, Some, slice_get, get_or, refl, ap, ◌∙◌, subst, arith}
+use Rattle.std.specs.List.{All, sum_by}
 use Rattle.std.proofs.lemmas.Bool.Decides.{nat_tests}
 use Rattle.std.proofs.lemmas.List.Elements.{All-head, All-tail, All-weaker}
 use Rattle.std.proofs.lemmas.List.{length-take-le}
@@ -33,7 +33,7 @@ unfolding count_upto
 count_split k [] = refl
 count_split k (order ∷ orders) =
     let here : cond (nat_le order.file (k + 1)) 1 0
-        ≡ cond (nat_le order.file k) 1 0 + cond (order.file == k + 1) 1 0 = grind (arith, nat_tests) in
+    ≡ cond (nat_le order.file k) 1 0 + cond (order.file == k + 1) 1 0 = grind (arith, nat_tests) in
     omega (arith, here, part_length (order.file == k + 1) order (part_of (k + 1) orders), count_split k orders)
 
 -- none is of no file

@@ -1,29 +1,26 @@
 -- What the callers of closed cells came to.
-use Rattle.std.proofs.Common.{◌≡◌, ℕ, ◌+◌, ◌≤◌, ◌<◌, List, [], ◌∷◌, ◌++◌, length, map, take, All, Vec, Global, Option, Some, IfSome, Result, Ok, Err, IfOk, IfErr, get_or, refl, sym, ap, ◌∙◌, subst, arith}
-use Rattle.std.specs.List.{slice_get}
+use Rattle.std.proofs.Common.{◌≡◌, ℕ, ◌+◌, ◌≤◌, ◌<◌, List, ◌++◌, length, map, All, Vec, Global, Option, Some, IfSome, Result, Ok, Err, IfOk, IfErr, get_or, sym, ap, ◌∙◌, subst, arith}
 use Rattle.std.proofs.lemmas.List.{length-map}
 use Rattle.std.proofs.lemmas.Option.{slice_get_within, get_or_from_slice_get}
 use Rattle.hm_orders.specs.declared.order.Order.{Order}
-use Rattle.hm_orders.specs.declared.report.Done.{Done}
 use Rattle.hm_orders.specs.declared.report.Report.{Report}
-use Rattle.hm_orders.specs.Interleaving.{dones_part, part_of}
-use Rattle.hm_model.specs.declared.object.Start.{Start}
+use Rattle.hm_orders.specs.Interleaving.{dones_part}
 use Rattle.hm_model.specs.declared.entry.Entry.{Entry}
 use Rattle.hm_model.specs.Effect.{caller_of}
-use Rattle.hm_model.specs.History.{calls_of, store_of}
+use Rattle.hm_model.specs.History.{calls_of}
 use Rattle.hm_model.specs.Lawful.{IsLawful}
 use Rattle.hm_book.specs.declared.limits.Limits.{Limits}
 use Rattle.hm_book.specs.Limits.{no_limits}
 use Rattle.hm_book.specs.Run.{BookState}
 use Rattle.hm_agreement.specs.Agreed.{IsAllowedBook, IsLawfulBook}
-use Rattle.hm_agreement.specs.Spelled.{IsBookStart, spelled}
-use Rattle.hm_agreement.specs.Told.{last_told, told_on}
+use Rattle.hm_agreement.specs.Spelled.{spelled}
+use Rattle.hm_agreement.specs.Told.{last_told}
 use Rattle.hm_agreement.proofs.Board.{told_of_history}
 use Rattle.hm_agreement.proofs.Parts.{files_of_history, part_of_history}
 use Rattle.hm_cellbook.specs.declared.usage.BookUsage.{BookUsage}
 use Rattle.hm_cellbook.specs.Fetched.{book_allowed, book_lawful}
 use Rattle.hm_moves.specs.declared.part.Site.{Site}
-use Rattle.hm_cells.specs.Facts.{Facts, Made, sight_of}
+use Rattle.hm_cells.specs.Facts.{Facts, Made}
 use Rattle.hm_cells.specs.Closing.{AreAll, CarriesPass, Ended, EndsIn, HeldToTheEnd, IsWholeHistory}
 use Rattle.hm_desk.specs.Progress.{dones_seen, last_root, state_seen}
 use Rattle.hm_replay.specs.declared.conclusion.Came.{Came}

@@ -1,9 +1,9 @@
 -- Jobs, by their places: before the callers have worked, and after.
-use Rattle.std.proofs.Common.{◌≡◌, ◌⊎◌, inl, inr, ℕ, ◌+◌, ◌<◌, ◌≤◌, List, [], ◌∷◌, ◌++◌, length, map, Option, Some, None, IfSome, All, Vec, Global, take, drop, append-nil, get_or, refl, sym, ap, ◌∙◌, subst, arith}
+use Rattle.std.proofs.Common.{◌≡◌, ℕ, ◌<◌, List, [], ◌∷◌, ◌++◌, length, map, Some, All, Vec, Global, take, drop, append-nil, get_or, refl, sym, ap, ◌∙◌, subst, arith}
 use Rattle.std.specs.List.{slice_get}
 use Rattle.std.specs.Option.{option_map}
 use Rattle.std.proofs.lemmas.List.{drop_all, length-append, length-map, take_all}
-use Rattle.std.proofs.lemmas.Option.{slice_get_within, slice_get-map, slice_get-get_or, get_or_from_slice_get}
+use Rattle.std.proofs.lemmas.Option.{slice_get_within, slice_get-map, slice_get-get_or}
 use Rattle.hm_orders.specs.declared.order.Order.{Order}
 use Rattle.hm_model.specs.Sight.{IsSameCaller}
 use Rattle.hm_cellbook.specs.declared.usage.BookUsage.{BookUsage}
@@ -41,9 +41,11 @@ pub jobs_more : (passes : List (Facts BookUsage)) (files : List (List Order)) (j
     → AreJobs passes files (jobs ++ job ∷ [])
 jobs_more passes files jobs are before count s rest all job pass orders =
     placed (λ k j. (slice_get passes k ≡ Some j.pass) × (slice_get files k ≡ Some j.orders)) jobs job are
-    (subst (λ n. (slice_get passes n ≡ Some job.pass) × (slice_get files n ≡ Some job.orders)) (sym count)
-    (ap (λ (l : List (Facts BookUsage)). slice_get l (length before)) all
-    ∙ (at_seam before s rest ∙ ap (λ (t : Facts BookUsage). Some t) (sym pass)), orders))
+    (subst (λ n. (slice_get passes n ≡ Some job.pass) × (slice_get files n ≡ Some job.orders)) (sym count) (
+      ap (λ (l : List (Facts BookUsage)). slice_get l (length before)) all
+          ∙ (at_seam before s rest ∙ ap (λ (t : Facts BookUsage). Some t) (sym pass)),
+      orders,
+    ))
 
 module _ (passes : List (Facts BookUsage)) (files : List (List Order)) (ready : AreReady passes files)
     (old new : List Working) (are : AreJobs passes files old) (count : length old ≡ length passes)

@@ -6,7 +6,6 @@ pub mod Whole
 pub mod Applied
 pub mod Telling
 pub mod Opened
-
 pub mod Jobs
 pub mod Ended
 pub mod Told

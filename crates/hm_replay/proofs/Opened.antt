@@ -1,5 +1,5 @@
 -- A fresh heap with an empty book, and its passes.
-use Rattle.std.proofs.Common.{◌≡◌, ◌≢◌, ℕ, ◌+◌, ◌<◌, ◌≤◌, List, [], ◌∷◌, length, map, Some, slice_get, slice_index, get_or, refl, sym, ap, ◌∙◌, subst, arith}
+use Rattle.std.proofs.Common.{◌≡◌, ℕ, ◌+◌, ◌<◌, List, length, map, Some, slice_get, slice_index, get_or, sym, ap, ◌∙◌, subst, arith}
 use Rattle.std.specs.List.{All}
 use Rattle.std.proofs.lemmas.Option.{slice_get_within, get_or_from_slice_get}
 use Rattle.std.proofs.lemmas.List.{get_or-map}
@@ -16,8 +16,8 @@ use Rattle.hm_moves.specs.declared.part.Site.{Site}
 use Rattle.hm_cells.specs.Closing.{AreAll}
 use Rattle.hm_cells.specs.Facts.{Facts, Made, sight_of}
 use Rattle.hm_desk.specs.Desk.{AreOwn, KeepsBook}
-use Rattle.hm_replay.specs.Loading.{AreOfFile, AreOfFiles}
-use Rattle.hm_replay.specs.Working.{AreReady, IsReady}
+use Rattle.hm_replay.specs.Loading.{AreOfFiles}
+use Rattle.hm_replay.specs.Working.{AreReady}
 use Rattle.hm_replay.proofs.Files.{of_file}
 
 -- a fresh caller keeps the empty book

@@ -1,10 +1,9 @@
 -- What a replay leaves, by the names of its files.
-use Rattle.std.proofs.Common.{◌≡◌, ◌≢◌, ℕ, ◌<◌, List, [], ◌∷◌, ◌++◌, length, Option, Some, None, IfSome, Result, Ok, Err, IfOk, IfErr, slice_index, refl, sym, ap, ◌∙◌, subst, append-nil}
+use Rattle.std.proofs.Common.{◌≡◌, ◌≢◌, ℕ, ◌<◌, List, [], length, Option, Some, None, IfSome, Result, Ok, Err, slice_index, refl, sym, ap, ◌∙◌, subst, append-nil}
 use Rattle.hm_edge.specs.Faults.{count_after}
 use Rattle.hm_edge.specs.Sinks.{bytes_after}
 use Rattle.hm_orders.specs.declared.order.Order.{Order}
 use Rattle.hm_orders.specs.declared.report.Report.{Report}
-use Rattle.hm_orders.specs.Interleaving.{Interleaves}
 use Rattle.hm_orders.specs.Putting.{PutsLines}
 use Rattle.hm_orders.specs.ReportText.{AddsFront, report_lines, report_text}
 use Rattle.hm_orders.proofs.Putting.{count-whole}
@@ -19,8 +18,8 @@ use Rattle.hm_replay.specs.declared.conclusion.FullAt.{FullAt}
 use Rattle.hm_replay.specs.declared.conclusion.Stopped.{Stopped}
 use Rattle.hm_replay.specs.declared.conclusion.Stopped.TheVariants as stopped
 use Rattle.hm_replay.specs.Loading.{AreHeld}
-use Rattle.hm_replay.specs.Concluding.{IfFull, TellsAll, WasFullAt}
-use Rattle.hm_replay.specs.Headline.{Headline, IsReplay, PutsReport, Replayed, line_count, text_of}
+use Rattle.hm_replay.specs.Concluding.{TellsAll, WasFullAt}
+use Rattle.hm_replay.specs.Headline.{Headline, IsReplay, PutsReport, Replayed, text_of}
 use Rattle.hm_replay.specs.Outcomes.{HasFront, IsWhy, StoppedAt}
 use Rattle.hm_replay.specs.Refusals.{file_unread, names_failed, refused_write, status_of}
 use Rattle.hm_replay.specs.declared.refusal.Refused.TheVariants.{Memory, Words, Files, Text, Read, Write, Full, Long}

@@ -1,5 +1,5 @@
 -- The report of callers that have all finished.
-use Rattle.std.proofs.Common.{◌≡◌, ◌⊎◌, inl, inr, ℕ, zero, suc, ◌+◌, ◌-◌, ◌≤◌, ◌<◌, ◌==◌, Bool, true, false, cond, List, [], ◌∷◌, ◌++◌, length, take, map, Option, Some, None, slice_get, slice_index, get_or, refl, sym, ap, ◌∙◌, subst, arith, eq-eqb}
+use Rattle.std.proofs.Common.{◌≡◌, ◌⊎◌, inl, inr, ℕ, zero, suc, ◌+◌, ◌-◌, ◌≤◌, ◌<◌, Bool, cond, List, [], ◌∷◌, ◌++◌, length, map, Some, None, slice_get, slice_index, get_or, refl, sym, ap, ◌∙◌, subst, arith, eq-eqb}
 use Rattle.std.specs.List.{All, AllPairs}
 use Rattle.std.specs.Option.{option_map}
 use Rattle.std.proofs.lemmas.List.Kept.{AllPairs-cons}
@@ -9,20 +9,19 @@ use Rattle.std.proofs.lemmas.Option.{slice_get_within, slice_get_cases, slice_ge
 use Rattle.hm_orders.specs.declared.order.Order.{Order}
 use Rattle.hm_orders.specs.declared.report.Done.{Done}
 use Rattle.hm_orders.specs.declared.report.Report.{Report}
-use Rattle.hm_orders.specs.Interleaving.{ArePartsOf, Interleaves, dones_part, part_of}
+use Rattle.hm_orders.specs.Interleaving.{ArePartsOf, Interleaves, dones_part}
 use Rattle.hm_model.specs.declared.entry.Entry.{Entry}
 use Rattle.hm_model.specs.History.{store_of}
 use Rattle.hm_book.specs.declared.limits.Limits.{Limits}
 use Rattle.hm_book.specs.Limits.{no_limits}
-use Rattle.hm_book.specs.Run.{BookState, done_of, dones_of, empty_state, report_of, rows_by_file, state_after, state_after_all}
-use Rattle.hm_book.proofs.Parts.{dones_part-append, rows-interleaved, length-dones_of}
+use Rattle.hm_book.specs.Run.{BookState, done_of, dones_of, empty_state, rows_by_file, state_after, state_after_all}
+use Rattle.hm_book.proofs.Parts.{dones_part-append, rows-interleaved}
 use Rattle.hm_agreement.specs.Spelled.{spelled}
 use Rattle.hm_agreement.specs.Told.{told_on}
-use Rattle.hm_desk.specs.declared.desk.Worked.{Worked}
 use Rattle.hm_desk.specs.declared.desk.Worked.TheVariants.{Finished}
 use Rattle.hm_desk.specs.Progress.{dones_seen, last_root, state_seen}
 use Rattle.hm_replay.specs.declared.conclusion.Came.{Came}
-use Rattle.hm_replay.specs.Concluding.{CameTo, HasEnded, HasFinished, HasPart, HaveCome, TellsAll}
+use Rattle.hm_replay.specs.Concluding.{CameTo, HasEnded, HasFinished, HaveCome, TellsAll}
 use Rattle.hm_replay.proofs.Applied.{file_of}
 
 -- a list has an element at each place within

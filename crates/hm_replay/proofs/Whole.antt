@@ -1,22 +1,22 @@
 -- What a caller has come to, in the whole history of its heap.
-use Rattle.std.proofs.Common.{◌≡◌, ℕ, ◌+◌, ◌≤◌, ◌<◌, ◌==◌, List, [], ◌∷◌, ◌++◌, length, take, refl, sym, ap, ◌∙◌, subst, append-nil, arith}
+use Rattle.std.proofs.Common.{◌≡◌, ℕ, ◌+◌, ◌≤◌, ◌==◌, List, [], ◌∷◌, ◌++◌, length, take, sym, ap, ◌∙◌, subst, append-nil, arith}
 use Rattle.std.proofs.lemmas.List.{append_cancel_left, append_assoc, take-append-le}
 use Rattle.std.specs.List.{All}
-use Rattle.std.proofs.lemmas.List.Elements.{filter-append, All-nil, All-cons, All-head, All-tail, All-weaker, All-filter}
+use Rattle.std.proofs.lemmas.List.Elements.{All-nil, All-cons, All-head, All-tail, All-weaker, All-filter}
 use Rattle.hm_orders.specs.declared.order.Order.{Order}
 use Rattle.hm_orders.specs.declared.report.Done.{Done}
 use Rattle.hm_orders.specs.Interleaving.{dones_part, part_of}
 use Rattle.hm_model.specs.declared.object.Start.{Start}
 use Rattle.hm_model.specs.declared.entry.Entry.{Entry}
 use Rattle.hm_model.specs.Store.{PlainStore}
-use Rattle.hm_model.specs.History.{calls_of, opening_of, store_of, store_after}
+use Rattle.hm_model.specs.History.{calls_of, opening_of, store_of}
 use Rattle.hm_model.specs.Lawful.{AllCome, IsLawful}
 use Rattle.hm_model.proofs.HistoryFacts.{all_come_parts, calls_of-append, store_after-append}
 use Rattle.hm_book.specs.declared.limits.Limits.{Limits}
 use Rattle.hm_book.specs.Run.{BookState, done_of, dones_of, empty_state, state_after, state_after_all}
 use Rattle.hm_book.proofs.Parts.{dones_of-append, dones_part-append, dones_part-none}
 use Rattle.hm_agreement.specs.Agreed.{IsAllowedBook, IsLawfulBook}
-use Rattle.hm_agreement.specs.Spelled.{IsBookStart, spelled}
+use Rattle.hm_agreement.specs.Spelled.{spelled}
 use Rattle.hm_agreement.proofs.SpelledRun.{spelled-append}
 use Rattle.hm_agreement.proofs.Parts.{part_others}
 use Rattle.hm_desk.specs.Progress.{dones_seen, last_root, state_seen}

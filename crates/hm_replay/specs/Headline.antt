@@ -1,9 +1,9 @@
 -- What a replay of several files leaves in its closed cells, and what its report tells of them.
-use Rattle.std.specs.Prelude.{◌≡◌, ℕ, ◌+◌, ◌<◌, ◌≤◌, false, List, length, Option, Some, IfSome, slice_get, slice_index}
+use Rattle.std.specs.Prelude.{◌≡◌, ℕ, ◌<◌, List, length, Option, Some, slice_index}
 use Rattle.hm_edge.specs.Faults.{count_after}
 use Rattle.hm_edge.specs.Sinks.{bytes_after}
 use Rattle.hm_orders.specs.declared.order.Order.{Order}
-use Rattle.hm_orders.specs.Interleaving.{Interleaves, part_of}
+use Rattle.hm_orders.specs.Interleaving.{Interleaves}
 use Rattle.hm_orders.specs.ReportText.{report_lines, report_text}
 use Rattle.hm_model.specs.History.{store_of}
 use Rattle.hm_book.specs.Limits.{no_limits}

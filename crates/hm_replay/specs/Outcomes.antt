@@ -1,5 +1,5 @@
 -- How a replay ends: why there is no report, and what is told of that.
-use Rattle.std.specs.Prelude.{◌≡◌, ℕ, ◌<◌, List, length, Option, Some, None, IfSome}
+use Rattle.std.specs.Prelude.{◌≡◌, ℕ, List, length, Option, Some, None, IfSome}
 use Rattle.hm_orders.specs.declared.order.Order.{Order}
 use Rattle.hm_orders.specs.ReportText.{AddsFront}
 use Rattle.hm_agreement.specs.Spelled.{spelled}

@@ -4,8 +4,7 @@ use Rattle.hm_orders.specs.declared.order.Order.{Order}
 use Rattle.hm_model.specs.Sight.{IsFresh, IsSameCaller}
 use Rattle.hm_book.specs.Limits.{no_limits}
 use Rattle.hm_cellbook.specs.declared.usage.BookUsage.{BookUsage}
-use Rattle.hm_cells.specs.Facts.{Facts, Made, sight_of}
-use Rattle.hm_ops.specs.Resting.{IsResting}
+use Rattle.hm_cells.specs.Facts.{Facts, sight_of}
 use Rattle.hm_heap.specs.Mutators.{AreSameCallers}
 use Rattle.hm_desk.specs.Desk.{AreOwn, KeepsBook}
 use Rattle.hm_desk.specs.Progress.{HasCome}

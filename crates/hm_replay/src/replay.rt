@@ -142,12 +142,7 @@ fn work_side_by_side<R: Threads + Sync, G: Gate + Sync>(
         → Works (slice_index_or jobs.old k d) (slice_index_or jobs.new k d) }
 {
     let desk = Desk::new(Limits::NONE);
-    thread::for_each_mut(
-        rt,
-        jobs,
-        jobs.len(),
-        &|_, job| job.work(alloc, &desk, gate),
-    );
+    thread::for_each_mut(rt, jobs, jobs.len(), &|_, job| job.work(alloc, &desk, gate));
 }
 
 /// A job for each pass, in the same order, with the orders of its file. There is room for all of them.

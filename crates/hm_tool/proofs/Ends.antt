@@ -7,7 +7,7 @@ use Rattle.hm_replay.specs.declared.conclusion.FullAt.{FullAt}
 use Rattle.hm_replay.specs.declared.refusal.Refused.{Refused}
 use Rattle.hm_replay.specs.declared.refusal.Refused.TheVariants.{Write}
 use Rattle.hm_replay.specs.Headline.{Headline, Replayed}
-use Rattle.hm_replay.specs.Outcomes.{IsWhy, SaysWhy}
+use Rattle.hm_replay.specs.Outcomes.{SaysWhy}
 use Rattle.hm_replay.specs.Refusals.{IsTold, message_of, names_failed}
 
 -- what a sink was told stands where it has the same bytes later

@@ -229,7 +229,14 @@ fn a_file_that_is_too_long_is_named_and_no_fault(rt: HostRuntime) -> Result<(), 
     let bytes = vec![in alloc; b'\n'; TOO_LONG]?;
     let files = vec![in alloc; (String::from_str(alloc, "a")?, bytes)]?;
     let shelf = MemoryShelf::new(files, Vec::new(alloc));
-    let ran = run_into(&rt, alloc, &["replay", "a"], shelf, Vec::new(alloc), &NoGate)?;
+    let ran = run_into(
+        &rt,
+        alloc,
+        &["replay", "a"],
+        shelf,
+        Vec::new(alloc),
+        &NoGate,
+    )?;
     assert_eq!(rt; ran.outcome.status, 7);
     assert_eq!(rt; ran.err.bytes(), b"hm: long 1\n".as_slice());
     Ok(())

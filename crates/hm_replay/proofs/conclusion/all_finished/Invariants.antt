@@ -1,5 +1,5 @@
 -- All callers so far have finished.
-use Rattle.std.proofs.Common.{◌≡◌, ℕ, ◌<◌, slice_index_or}
+use Rattle.std.proofs.Common.{ℕ, ◌<◌, slice_index_or}
 use Rattle.hm_replay.specs.declared.conclusion.Came.{Came}
 use Rattle.hm_replay.specs.Concluding.{HasFinished}
 use Rattle.hm_replay.proofs.conclusion.all_finished.Given as goal

@@ -1,5 +1,5 @@
 -- The slice has all callers.
-use Rattle.std.proofs.Common.{◌≡◌, List, subst}
+use Rattle.std.proofs.Common.{List, subst}
 use Rattle.hm_orders.specs.declared.order.Order.{Order}
 use Rattle.hm_model.specs.declared.entry.Entry.{Entry}
 use Rattle.hm_replay.specs.declared.conclusion.Came.{Came}

@@ -1,5 +1,5 @@
 -- What the closed cells and the report say of the named files.
-use Rattle.std.proofs.Common.{rules, ◌≡◌, ◌∙◌, List, Option, Result, Some, None, Ok, Err, IfSome, IfOk, IfErr, length, map, sym, ap, subst}
+use Rattle.std.proofs.Common.{rules, ◌≡◌, List, Result, Err, IfSome, IfOk, IfErr, length, map, sym, subst}
 use Rattle.std.proofs.lemmas.List.{length-map}
 use Rattle.hm_orders.specs.declared.order.Order.{Order}
 use Rattle.hm_orders.specs.declared.report.Report.{Report}

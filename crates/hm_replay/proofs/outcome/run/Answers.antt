@@ -1,5 +1,5 @@
 -- The refusal says why there is no report.
-use Rattle.std.proofs.Common.{◌≡◌, ◌∙◌, Result, IfErr, ap, subst}
+use Rattle.std.proofs.Common.{◌∙◌, Result, IfErr, ap, subst}
 use Rattle.hm_replay.specs.declared.refusal.Refused.{Refused}
 use Rattle.hm_replay.specs.Outcomes.{IsWhy}
 use Rattle.hm_replay.specs.Refusals.{names_failed, unread_of}

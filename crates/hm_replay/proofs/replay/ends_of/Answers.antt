@@ -1,10 +1,7 @@
 -- One job more has ended.
-use Rattle.std.proofs.Common.{rules, ◌≡◌, ◌∙◌, ◌<◌, ◌++◌, ◌∷◌, List, [], length, map, Some, sym, ap, subst}
+use Rattle.std.proofs.Common.{rules, ◌∙◌, ◌++◌, ◌∷◌, List, [], sym}
 use Rattle.std.proofs.lemmas.List.{map-append}
 use Rattle.std.proofs.lemmas.List.Elements.{All-append, All-cons, All-nil}
-use Rattle.hm_cellbook.specs.declared.usage.BookUsage.{BookUsage}
-use Rattle.hm_cells.specs.Facts.{Facts}
-use Rattle.hm_replay.specs.declared.conclusion.Came.{Came}
 use Rattle.hm_replay.specs.Working.{IsAtWork, Working}
 use Rattle.hm_replay.proofs.replay.ends_of.Goals as goal
 

@@ -1,7 +1,7 @@
 -- Each pass is ready for its orders, and has its job.
-use Rattle.std.proofs.Common.{rules, ◌≡◌, ◌∙◌, ◌<◌, ◌++◌, ◌∷◌, List, [], length, map, sym, ap, subst}
+use Rattle.std.proofs.Common.{rules, ◌≡◌, ◌∙◌, ◌<◌, ◌++◌, ◌∷◌, [], length, map, sym, ap, subst}
 use Rattle.std.proofs.lemmas.List.{append_assoc}
-use Rattle.hm_replay.specs.Working.{AreJobs, Working}
+use Rattle.hm_replay.specs.Working.{AreJobs}
 use Rattle.hm_replay.proofs.Jobs.{count_more, jobs_more, next_ready, next_within, own_orders}
 use Rattle.hm_replay.proofs.replay.jobs_of.Goals as goal
 

@@ -1,5 +1,5 @@
 -- The heap starts with an empty book, and each pass is ready for its file.
-use Rattle.std.proofs.Common.{rules, ◌≡◌, ◌∙◌, ℕ, All, Vec, Global, List, length, map, take, refl, ap, sym, subst}
+use Rattle.std.proofs.Common.{rules, ◌≡◌, ◌∙◌, ℕ, All, Vec, Global, List, length, map, refl, ap, sym, subst}
 use Rattle.std.proofs.lemmas.List.{take_all, length-map}
 use Rattle.hm_orders.specs.declared.order.Order.{Order}
 use Rattle.hm_moves.specs.declared.part.Site.{Site}

@@ -7,10 +7,13 @@ conclude-requires g c =
     let closed = c.close.ensures in
     let ran = c.work_all-passes.ensures in
     record {
-      come = (_, c.close.result.history,
-      come_to c.args.files.items c.requires.files c.close.result c.in-Ok.heap closed.site _ c.as_slice.ensures.value
-      c.in-Ok.ensures.heap closed.whole _ ran.all closed.passes _ c.as_slice-2.ensures.value c.in-Ok.passes.items _
-      c.in-Some.came c.in-Some.is ran.worked);
+      come = (
+        _,
+        c.close.result.history,
+        come_to c.args.files.items c.requires.files c.close.result c.in-Ok.heap closed.site _ c.as_slice.ensures.value
+            c.in-Ok.ensures.heap closed.whole _ ran.all closed.passes _ c.as_slice-2.ensures.value c.in-Ok.passes.items _
+            c.in-Some.came c.in-Some.is ran.worked,
+      );
     }
 
 pub returns-in-Some-clause-heap : goal.returns-in-Some-clause-heap

@@ -1,5 +1,5 @@
 -- All callers have worked, each on its file.
-use Rattle.std.proofs.Common.{rules, ◌≡◌, ◌∙◌, ◌<◌, ◌++◌, ℕ, All, List, length, map, take, drop, get_or, sym, ap, subst}
+use Rattle.std.proofs.Common.{rules, ◌≡◌, ◌∙◌, ◌<◌, ℕ, All, List, length, map, get_or, sym, ap, subst}
 use Rattle.hm_orders.specs.declared.order.Order.{Order}
 use Rattle.hm_cellbook.specs.declared.usage.BookUsage.{BookUsage}
 use Rattle.hm_cells.specs.Closing.{AreAll}

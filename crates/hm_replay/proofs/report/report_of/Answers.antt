@@ -1,5 +1,5 @@
 -- The merged notes are what became of all orders.
-use Rattle.std.proofs.Common.{rules, ◌≡◌, ◌∙◌, sym, ap, subst, length, List, slice_get, ℕ, ◌<◌, ◌≤◌, All}
+use Rattle.std.proofs.Common.{rules, ◌∙◌, ap, length, List, slice_get}
 use Rattle.hm_orders.specs.declared.report.Done.{Done}
 use Rattle.hm_replay.proofs.Telling.{noted_files, whole}
 use Rattle.hm_replay.proofs.report.report_of.Goals as goal
