@@ -10,7 +10,7 @@ use hm_desk::{Progress, Worked};
 use hm_orders::Report;
 use std::alloc::{AllocError, AllocFailed, Global};
 
-/// What a caller's work came to.
+/// What a caller's work came to. Before it has worked, it has applied nothing, and stands as if memory had run out.
 #[derive(Drop)]
 pub(crate) struct Came {
     pub progress: Progress,
@@ -20,7 +20,7 @@ pub(crate) struct Came {
 /// For whom the heap of a replay was full.
 #[derive(Clone, Copy, Debug, PartialEq, Eq)]
 pub struct FullAt {
-    /// The first caller, numbered from 0, that stalled.
+    /// The caller that stalled, numbered from 0. Those before it have finished.
     pub caller: u32,
     /// Whether the heap was being settled: never yet.
     pub settling: bool,

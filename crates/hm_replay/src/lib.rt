@@ -1,4 +1,26 @@
-//! The program's work.
+//! The program's work as one call over a shelf and two sinks: read the words and the files, replay their orders, write.
+//!
+//! [`run`] is the call that the program makes. Each file has a caller of its own on one shared heap, which keeps the
+//! book in cells, and all callers work side by side:
+//!
+//! ```text
+//!   words --> load: all files are read, then their rows
+//!               |
+//!             replay: a heap with an empty book, and a job for each file
+//!               |         job 0: a mutator, its orders    --.
+//!               |         job 1: ..                         |-- each applies its orders at a desk
+//!               |         ..                              --'
+//!               |     the passes are given back, and the heap is closed: one history
+//!               |
+//!             conclude: what became of the orders of each file, merged by root number
+//!               |
+//!             write_report
+//! ```
+//!
+//! What a job's caller notes is tied to what it has seen (`hm_desk`), what it has seen begins the history of the closed
+//! heap (`hm_cells`), and that history spells an interleaving of the files, with the book of one thread
+//! (`hm_agreement`). `specs/Headline.antt` says what that comes to. Whatever goes wrong on the way is a [`Refused`],
+//! which has a status of its own and one line of text.
 #![tactic(auto)]
 
 mod conclusion;
