@@ -34,7 +34,6 @@ fn shelf_of(alloc: Global, texts: &[&str]) -> Result<MemoryShelf, AllocError> {
 #[derive(Drop)]
 struct Ran {
     outcome: Outcome,
-    shelf: MemoryShelf,
     out: MemorySink,
     err: MemorySink,
 }
@@ -60,12 +59,7 @@ fn run_into<R: Threads + Sync, G: Gate + Sync>(
         &mut err,
         gate,
     );
-    Ok(Ran {
-        outcome,
-        shelf,
-        out,
-        err,
-    })
+    Ok(Ran { outcome, out, err })
 }
 
 /// Runs the words over the files, with nobody at the gate and sinks that do not fail.
@@ -224,7 +218,7 @@ fn a_file_that_passes_the_room_ends_with_six(rt: HostRuntime) -> Result<(), Fail
 const TOO_LONG: usize = 67_108_865;
 
 #[test]
-fn a_file_that_is_too_long_is_named_and_no_fault(rt: HostRuntime) -> Result<(), Fail> {
+fn a_file_that_is_too_long_is_named(rt: HostRuntime) -> Result<(), Fail> {
     let alloc = rt.alloc();
     let bytes = vec![in alloc; b'\n'; TOO_LONG]?;
     let files = vec![in alloc; (String::from_str(alloc, "a")?, bytes)]?;
