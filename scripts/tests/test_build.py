@@ -6,8 +6,8 @@ import sys
 from common import Case, content, in_turn, one_by_one, path
 from rows import files_of
 
-TOOLS = ("awk", "bash", "cat", "dirname", "env", "find", "mkdir", "mktemp", "mv", "readlink", "rm", "tail", "tee",
-         "touch")
+TOOLS = ("awk", "bash", "cat", "dirname", "env", "find", "mkdir", "mktemp", "mv", "readlink", "rm", "sh", "tail",
+         "tee", "touch")
 # What stands in the toolchain's place: it notes its calls, and builds a program that prints the demo's report, and for
 # two files one and the other report by turns.
 RT = b"""#!/bin/bash
@@ -116,4 +116,5 @@ class Build(Case):
             self.assertEqual(last, "0 passed, 1 failed")
             self.assertIn("not on the path is %s: %s" % (lacking, install), told)
             if lacking == "python3":
+                self.says(self.alone("scripts/explain", "hm: read 1"), 2, err=b"install Python 3.8 or later\n")
                 self.add_python()
