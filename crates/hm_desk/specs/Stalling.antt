@@ -1,5 +1,5 @@
 -- Why a caller's work stalls.
-use Rattle.std.specs.Prelude.{◌≡◌, ℕ, List}
+use Rattle.std.specs.Prelude.{◌≡◌, ℕ, ◌≤◌, List}
 use Rattle.hm_model.specs.declared.entry.Entry.{Entry}
 use Rattle.hm_model.specs.Sight.{Sight, Goes}
 use Rattle.hm_model.specs.Tending.{allowed_versions}
@@ -26,6 +26,12 @@ pub record WasFull (c : Sight BookUsage) (used free : ℕ) : Type 0 where
   pub none : allowed_versions moment ≡ 0
   pub used_then : used ≡ moment.used
   pub free_then : free ≡ moment.free
+
+-- a caller's region is used up: these are its counts, and all places of its To region are used
+pub record IsUsedUp (c : Sight BookUsage) (used free : ℕ) : Type 0 where
+  pub used_is : used ≡ c.used
+  pub free_is : free ≡ c.free
+  pub region : c.span ≤ used
 
 -- where a caller was halted since it was full, a fact may be said of the two counts
 abbrev pub IfFull : Halt → (ℕ → ℕ → Type 0) → Type 0

@@ -5,7 +5,7 @@ ghost use Rattle.hm_orders.specs.Orders.{IsWellFormed};
 ghost use Rattle.hm_model.specs.Sight.{name_at};
 ghost use Rattle.hm_agreement.specs.Cells.{board_name};
 ghost use Rattle.hm_cellbook.specs.Fetched.{WasFetched};
-ghost use Rattle.hm_desk.specs.Stalling.{IfFull, WasFull};
+ghost use Rattle.hm_desk.specs.Stalling.{IfFull, IsUsedUp, WasFull};
 ghost use Rattle.hm_desk.specs.Hindered.{FetchesBook, FindsGreater, IsHindered, TakesCost, WasOvertaken};
 ghost use Rattle.hm_desk.specs.Working.{GoesOn, GoesQuietly, IsAtDesk, IsAtWork, IsChanged, IsReady, book_stamp};
 
@@ -196,6 +196,7 @@ pub(crate) fn apply<C: Worker<BookUsage>>(
     ensures unchanged { OnErr result (so_far.new ≡ so_far.old) }
     ensures told { so_far.new.told ≡ so_far.old.told }
     ensures full { IfErr result (λ halt. IfFull halt (WasFull (C.sight c.old))) }
+    ensures up { IfErr result (λ halt. IfFull halt (IsUsedUp (C.sight c.new))) }
     ensures tends { (C.sight c.old).tends ≤ (C.sight c.new).tends }
     ensures hindered { IfErr result (λ halt. IfFull halt (λ used free.
         IsHindered 1 orders.now so_far.old.next (C.sight c.old) (C.sight c.new))) }

@@ -5,7 +5,7 @@ ghost use Rattle.hm_model.specs.Sight.{Goes};
 ghost use Rattle.hm_cellbook.specs.Fetched.{book_allowed, book_lawful};
 ghost use Rattle.hm_desk.specs.Desk.{AdmitAll, AreOwn, KeepsBook};
 ghost use Rattle.hm_desk.specs.Progress.{HasCome};
-ghost use Rattle.hm_desk.specs.Stalling.{IfFull, IfStalled, WasFull};
+ghost use Rattle.hm_desk.specs.Stalling.{IfFull, IfStalled, IsUsedUp, WasFull};
 ghost use Rattle.hm_desk.specs.Hindered.{IsHindered};
 ghost use Rattle.hm_desk.specs.Working.{GoesOn, IsAtWork};
 
@@ -87,6 +87,7 @@ impl Desk {
         ensures told { result ≡ Worked.Finished → so_far.new.told ≡ so_far.new.next }
         ensures stalled { IfStalled result (λ at used free. (at ≡ so_far.new.next)
             × WasFull (C.sight c.old) used free) }
+        ensures up { IfStalled result (λ at used free. IsUsedUp (C.sight c.new) used free) }
         ensures tends { (C.sight c.old).tends + so_far.new.next
             ≤ (C.sight c.new).tends + so_far.old.next }
         ensures hindered { IfStalled result (λ at used free. so_far.new.next ≡ so_far.old.next
@@ -125,6 +126,7 @@ fn work_on<C: Worker<BookUsage>, G: Gate>(
     ensures next { OnOk result (so_far.new.next ≡ so_far.old.next + 1) }
     ensures told { OnOk result (so_far.new.told ≡ so_far.new.next) }
     ensures full { IfErr result (λ halt. IfFull halt (WasFull (C.sight c.old))) }
+    ensures up { IfErr result (λ halt. IfFull halt (IsUsedUp (C.sight c.new))) }
     ensures tends { (C.sight c.old).tends + so_far.new.next
         ≤ (C.sight c.new).tends + so_far.old.next }
     ensures hindered { IfErr result (λ halt. IfFull halt (λ used free.
@@ -155,6 +157,7 @@ fn work_through<C: Worker<BookUsage>, G: Gate>(
     ensures next { OnOk result (so_far.new.next ≡ length orders.now) }
     ensures told { OnOk result (so_far.new.told ≡ so_far.new.next) }
     ensures full { IfErr result (λ halt. IfFull halt (WasFull (C.sight c.old))) }
+    ensures up { IfErr result (λ halt. IfFull halt (IsUsedUp (C.sight c.new))) }
     ensures tends { (C.sight c.old).tends + so_far.new.next
         ≤ (C.sight c.new).tends + so_far.old.next }
     ensures hindered { IfErr result (λ halt. IfFull halt (λ used free.

@@ -2,7 +2,7 @@
 ghost use Rattle.std.specs.Prelude.{◌≡◌, ◌⊎◌, ◌+◌, ◌<◌, ◌≤◌, Some, OnOk, OnErr, IsErr, IfErr};
 ghost use Rattle.hm_model.specs.Sight.{name_at};
 ghost use Rattle.hm_agreement.specs.Cells.{board_name};
-ghost use Rattle.hm_desk.specs.Stalling.{IfFull, WasFull};
+ghost use Rattle.hm_desk.specs.Stalling.{IfFull, IsUsedUp, WasFull};
 ghost use Rattle.hm_desk.specs.Hindered.{FetchesCommon, IsHindered, Settles, TakesFew};
 ghost use Rattle.hm_desk.specs.Working.{GoesOn, GoesQuietly, IsAtDesk, IsAtWork};
 
@@ -68,6 +68,7 @@ pub(crate) fn tell<C: Worker<BookUsage>>(
     ensures next { so_far.new.next ≡ so_far.old.next }
     ensures told { OnOk result (so_far.new.told ≡ so_far.new.next) }
     ensures full { IfErr result (λ halt. IfFull halt (WasFull (C.sight c.old))) }
+    ensures up { IfErr result (λ halt. IfFull halt (IsUsedUp (C.sight c.new))) }
     ensures empty { IsErr result → (C.sight c.old).room ≡ 0 }
     ensures tends { (C.sight c.old).tends ≤ (C.sight c.new).tends }
     ensures tended { OnErr result ((C.sight c.old).tends < (C.sight c.new).tends) }
@@ -95,6 +96,7 @@ pub(crate) fn settle<C: Worker<BookUsage>>(
     ensures next { so_far.new.next ≡ so_far.old.next }
     ensures told { OnOk result (so_far.new.told ≡ so_far.new.next) }
     ensures full { IfErr result (λ halt. IfFull halt (WasFull (C.sight c.old))) }
+    ensures up { IfErr result (λ halt. IfFull halt (IsUsedUp (C.sight c.new))) }
     ensures tends { (C.sight c.old).tends ≤ (C.sight c.new).tends }
     ensures hindered { OnErr result
         (IsHindered 0 orders.now so_far.old.next (C.sight c.old) (C.sight c.new)) }

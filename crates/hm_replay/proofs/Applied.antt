@@ -4,7 +4,7 @@ use Rattle.std.specs.List.{All, sum_by}
 use Rattle.std.proofs.lemmas.Bool.Decides.{nat_tests}
 use Rattle.std.proofs.lemmas.List.Elements.{All-head, All-tail, All-weaker}
 use Rattle.std.proofs.lemmas.List.{length-take-le}
-use Rattle.std.proofs.lemmas.Option.{slice_get_within, slice_get-get_or, slice_get_read}
+use Rattle.std.proofs.lemmas.Option.{get_or_from_slice_get, slice_get_within, slice_get-get_or, slice_get_read}
 use Rattle.std.proofs.lemmas.List.Sums.{sum_by-cons}
 use Rattle.hm_orders.specs.declared.order.Order.{Order}
 use Rattle.hm_orders.specs.Interleaving.{part_of}
@@ -12,7 +12,7 @@ use Rattle.hm_model.specs.declared.entry.Entry.{Entry}
 use Rattle.hm_agreement.specs.Spelled.{spelled}
 use Rattle.hm_replay.specs.declared.conclusion.Came.{Came}
 use Rattle.hm_replay.proofs.Files.{of_file}
-use Rattle.hm_replay.specs.Concluding.{CameTo, HasEnded, HaveCome, WasFullAt}
+use Rattle.hm_replay.specs.Concluding.{CameTo, HasEnded, HasFinished, HasStalled, HaveCome, WasFullAt}
 use Rattle.hm_desk.specs.declared.desk.Worked.TheVariants.{Stalled}
 
 -- how many orders are of the first k files
@@ -138,3 +138,17 @@ full_at files history came to k used free at c within is stalled root all =
       settled = refl;
       used = subst (HasEnded file.0 c.progress.next c.progress.told) stalled part.ended;
     }
+
+-- and it is the one that stalled, behind callers that have finished
+pub stalled_at : (came : List Came) (k used free at : ℕ) (c : Came) → k < length came → c ≡ get_or came k c
+    → c.worked ≡ Stalled at used free
+    → ((i : ℕ) (d : Came) → i < k → HasFinished (get_or came i d))
+    → (root : ℕ)
+    → HasStalled came record { caller = k; settling = false; settled = root; root = root; used = used; free = free }
+stalled_at came k used free at c within is stalled before root = record {
+  its = c;
+  here = slice_get_read came (length came) k c refl within is;
+  place = at;
+  worked = stalled;
+  before = λ i d low here. subst HasFinished (get_or_from_slice_get came i d d here) (before i d low);
+}

@@ -1,6 +1,6 @@
 -- What the callers of closed cells came to.
-use Rattle.std.proofs.Common.{◌≡◌, ℕ, ◌+◌, ◌≤◌, ◌<◌, List, ◌++◌, length, map, All, Vec, Global, Option, Some, IfSome, Result, Ok, Err, IfOk, IfErr, get_or, sym, ap, ◌∙◌, subst, arith}
-use Rattle.std.proofs.lemmas.List.{length-map}
+use Rattle.std.proofs.Common.{◌≡◌, ℕ, ◌+◌, ◌≤◌, ◌<◌, List, ◌++◌, length, map, All, Vec, Global, Option, Some, IfSome, Result, Ok, Err, IfOk, IfErr, get_or, slice_get, false, sym, ap, ◌∙◌, subst, arith}
+use Rattle.std.proofs.lemmas.List.{length-map, take_all}
 use Rattle.std.proofs.lemmas.Option.{slice_get_within, get_or_from_slice_get}
 use Rattle.hm_orders.specs.declared.order.Order.{Order}
 use Rattle.hm_orders.specs.declared.report.Report.{Report}
@@ -20,15 +20,19 @@ use Rattle.hm_agreement.proofs.Parts.{files_of_history, part_of_history}
 use Rattle.hm_cellbook.specs.declared.usage.BookUsage.{BookUsage}
 use Rattle.hm_cellbook.specs.Fetched.{book_allowed, book_lawful}
 use Rattle.hm_moves.specs.declared.part.Site.{Site}
-use Rattle.hm_cells.specs.Facts.{Facts, Made}
-use Rattle.hm_cells.specs.Closing.{AreAll, CarriesPass, Ended, EndsIn, HeldToTheEnd, IsWholeHistory}
+use Rattle.hm_cells.specs.declared.closing.Counts.{Counts}
+use Rattle.hm_cells.specs.Facts.{Facts, Made, sight_of}
+use Rattle.hm_cells.specs.Closing.{AreAll, CarriesPass, Ended, EndsIn, HeldToTheEnd, IsWholeHistory, counts_of}
+use Rattle.hm_desk.specs.declared.desk.Worked.{Worked}
 use Rattle.hm_desk.specs.Progress.{dones_seen, last_root, state_seen}
+use Rattle.hm_desk.specs.Stalling.{IfStalled, IsUsedUp}
 use Rattle.hm_replay.specs.declared.conclusion.Came.{Came}
+use Rattle.hm_replay.specs.declared.conclusion.FullAt.{FullAt}
 use Rattle.hm_replay.specs.declared.conclusion.Stopped.{Stopped}
 use Rattle.hm_replay.specs.declared.conclusion.Stopped.TheVariants as stopped
 use Rattle.hm_replay.specs.Headline.{IsBookHeap, IsReplay}
 use Rattle.hm_replay.specs.Loading.{AreOfFiles}
-use Rattle.hm_replay.specs.Concluding.{CameTo, HasPart, IfFull, TellsAll, WasFullAt}
+use Rattle.hm_replay.specs.Concluding.{CameTo, HasEnded, HasPart, HasStalled, IfFull, IsFirstFull, TellsAll, WasFullAt}
 use Rattle.hm_replay.specs.Working.{HaveWorked, IsAtWork}
 use Rattle.hm_replay.proofs.Pushed.{at_value}
 use Rattle.hm_replay.proofs.Telling.{there}
@@ -137,6 +141,43 @@ full_of files history came (Ok report) h to = tt
 full_of files history came (Err stopped.Memory) h to = tt
 full_of files history came (Err (stopped.Full at)) h to = h files history to
 
+-- the caller that stalled first has its counts in the closed cells, and those before it have applied all their orders
+first_full : (e : Ended BookUsage) (n : ℕ) → IsBookHeap n e.site → (files : List (List Order)) → n ≡ length files
+    → (m : Made BookUsage) → e.site ≡ m.site → (before back : List (Facts BookUsage)) (came : List Came)
+    → AreAll m back → All (EndsIn e) back → HaveWorked before back files came → CameTo files e.history came
+    → (at : FullAt) → HasStalled came at → IsFirstFull files e at
+first_full e n heap files count m site before back came all ends worked to at st =
+    let k : ℕ = at.caller in
+    let low : k < length came = slice_get_within came k st.its st.here in
+    let file = there files k (omega (arith, low, worked.count)) in
+    let callers : m.site.shape.callers ≡ n = ap (λ (g : Site BookUsage). g.shape.callers) (sym site) ∙ heap.callers in
+    let s = there back k (omega (arith, low, worked.count, all.count, callers, count)) in
+    let same : get_or back k s.0 ≡ s.0 = get_or_from_slice_get back k s.0 s.0 s.1 in
+    let end : EndsIn e s.0 = subst (EndsIn e) same (ends k s.0 (slice_get_within back k s.0 s.1)) in
+    let work = worked.each k s.0 file.0 st.its s.1 file.1 st.here in
+    let up : IsUsedUp (sight_of s.0) at.used at.free =
+    subst (λ (w : Worked). IfStalled w (λ place. IsUsedUp (sight_of s.0))) st.worked work.up in
+    let noted : slice_get e.counts k ≡ Some (counts_of s.0) =
+    subst (λ (q : ℕ). slice_get e.counts q ≡ Some (counts_of s.0)) (all.numbers k s.0 s.1) end.counts in
+    let its : counts_of s.0 ≡ record { used = at.used; free = at.free; joined = false } =
+    λ i. record { used = sym up.used_is i; free = sym up.free_is i; joined = false } in
+    record {
+      counts = noted ∙ ap (λ (x : Counts). Some x) its;
+      before = λ i orders first is.
+          let c = there came i (omega (arith, first, low)) in
+          let part = to.parts i orders c.0 is c.1 in
+          let ended : (c.0.progress.next ≡ length orders) × (c.0.progress.told ≡ c.0.progress.next) =
+          subst (HasEnded orders c.0.progress.next c.0.progress.told) (st.before i c.0 first c.1) part.ended in
+          let whole = ended.0 in part.applied ∙ take_all c.0.progress.next orders (omega (arith, whole));
+    }
+
+first_of : (files : List (List Order)) (e : Ended BookUsage) (came : List Came)
+    → ((at : FullAt) → HasStalled came at → IsFirstFull files e at) → (r : Result Report Stopped)
+    → IfErr r (IfFull (HasStalled came)) → IfErr r (IfFull (IsFirstFull files e))
+first_of files e came so (Ok report) h = tt
+first_of files e came so (Err stopped.Memory) h = tt
+first_of files e came so (Err (stopped.Full at)) h = so at h
+
 module _ (files : List (Vec Order Global)) (are : AreOfFiles (map (λ orders. orders.items) files))
     (e : Ended BookUsage) (m : Made BookUsage) (site : e.site ≡ m.site)
     (opened : List (Vec Order Global)) (same : opened ≡ files) (heap : IsBookHeap (length opened) m.site)
@@ -162,6 +203,20 @@ module _ (files : List (Vec Order Global)) (are : AreOfFiles (map (λ orders. or
       (subst (λ (l : List (Vec Order Global)). HaveWorked before back (map (λ orders. orders.items) l) there.items) same_files
       (at_value (λ (c : Vec Came Global). HaveWorked before back (map (λ orders. orders.items) worked_on) c.items)
       came there is worked))
+
+  -- and the first that could not finish has its counts in the closed cells
+  pub first_at : (worked_on : List (Vec Order Global)) → worked_on ≡ files → (before : List (Facts BookUsage))
+      → (came : Option (Vec Came Global)) (vec : Vec Came Global) → came ≡ Some vec
+      → IfSome came (λ came. HaveWorked before back (map (λ orders. orders.items) worked_on) came.items)
+      → (r : Result Report Stopped) → IfErr r (IfFull (HasStalled vec.items))
+      → IfErr r (IfFull (IsFirstFull (map (λ orders. orders.items) files) e))
+  first_at worked_on same_files before came vec is worked r h =
+      let to = come_to worked_on same_files before came vec is worked in
+      first_of (map (λ orders. orders.items) files) e vec.items
+      (first_full e (length files) book_heap (map (λ orders. orders.items) files) long m site before back vec.items all ends
+      (subst (λ (l : List (Vec Order Global)). HaveWorked before back (map (λ orders. orders.items) l) vec.items) same_files
+      (at_value (λ (c : Vec Came Global). HaveWorked before back (map (λ orders. orders.items) worked_on) c.items)
+      came vec is worked)) to) r h
 
   -- and its closed cells are those of a replay
   pub replay_of : (held : HeldToTheEnd book_lawful book_allowed e) × All (CarriesPass held.core) back

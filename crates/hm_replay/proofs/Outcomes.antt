@@ -18,7 +18,7 @@ use Rattle.hm_replay.specs.declared.conclusion.FullAt.{FullAt}
 use Rattle.hm_replay.specs.declared.conclusion.Stopped.{Stopped}
 use Rattle.hm_replay.specs.declared.conclusion.Stopped.TheVariants as stopped
 use Rattle.hm_replay.specs.Loading.{AreHeld}
-use Rattle.hm_replay.specs.Concluding.{TellsAll, WasFullAt}
+use Rattle.hm_replay.specs.Concluding.{IsFirstFull, TellsAll, WasFullAt}
 use Rattle.hm_replay.specs.Headline.{Headline, IsReplay, PutsReport, Replayed, text_of}
 use Rattle.hm_replay.specs.Outcomes.{HasFront, IsWhy, StoppedAt}
 use Rattle.hm_replay.specs.Refusals.{file_unread, names_failed, refused_write, status_of}
@@ -132,11 +132,12 @@ module _ (told : List ℕ → Option (List ℕ)) (files : List (List Order)) (n 
   -- the heap was full for a caller
   pub stopped_at : (at : FullAt) (closed : Option (Ended BookUsage)) → closed ≢ None
       → IfSome closed (IsReplay n) → IfSome closed (λ e. WasFullAt files e.history at)
+      → IfSome closed (λ e. IsFirstFull files e at)
       → (names : Option (List (List ℕ))) → IfSome names (λ ns. AreHeld told ns files)
       → IfSome names (λ ns. StoppedAt told ns closed (Some at) at.caller)
-  stopped_at at closed made heap was None held = tt
-  stopped_at at None made heap was (Some names) held = absurd (made refl)
-  stopped_at at (Some e) made heap was (Some names) held = record {
+  stopped_at at closed made heap was first None held = tt
+  stopped_at at None made heap was first (Some names) held = absurd (made refl)
+  stopped_at at (Some e) made heap was first (Some names) held = record {
     cells = e;
     closed_are = refl;
     heap = subst (λ (k : ℕ). IsReplay k e) (size ∙ held.count) heap;
@@ -146,6 +147,7 @@ module _ (told : List ℕ → Option (List ℕ)) (files : List (List Order)) (n 
     files = files;
     held = held;
     was = was;
+    first = first;
   }
 
 -- nothing is a front, whatever the names

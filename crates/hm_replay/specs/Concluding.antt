@@ -9,6 +9,8 @@ use Rattle.hm_book.specs.Limits.{no_limits}
 use Rattle.hm_book.specs.Run.{report_of, rows_by_file}
 use Rattle.hm_agreement.specs.Spelled.{spelled}
 use Rattle.hm_agreement.specs.Told.{told_on}
+use Rattle.hm_cellbook.specs.declared.usage.BookUsage.{BookUsage}
+use Rattle.hm_cells.specs.Closing.{Ended}
 use Rattle.hm_desk.specs.declared.desk.Worked.{Worked}
 use Rattle.hm_desk.specs.declared.desk.Worked.TheVariants.{Finished, Stalled, Memory}
 use Rattle.hm_desk.specs.Progress.{dones_seen, last_root, state_seen}
@@ -69,6 +71,22 @@ pub record TellsAll (files : List (List Order)) (history : List Entry) (report :
 abbrev pub IfFull : (FullAt → Type 0) → Stopped → Type 0
 IfFull P stopped.Memory = Unit {0}
 IfFull P (stopped.Full at) = P at
+
+-- the named caller stalled with these two counts, and those before it have finished
+pub record HasStalled (came : List Came) (at : FullAt) : Type 0 where
+  pub its : Came
+  pub here : slice_get came at.caller ≡ Some its
+  pub place : ℕ
+  pub worked : its.worked ≡ Stalled place at.used at.free
+  pub before : (k : ℕ) (c : Came) → k < at.caller → slice_get came k ≡ Some c → HasFinished c
+
+-- closed cells have these two counts for the named caller, and the history spells all orders of the
+-- files before its own
+pub record IsFirstFull (files : List (List Order)) (e : Ended BookUsage) (at : FullAt) : Type 0 where
+  pub counts : slice_get e.counts at.caller
+      ≡ Some (record { used = at.used; free = at.free; joined = false })
+  pub before : (k : ℕ) (orders : List Order) → k < at.caller → slice_get files k ≡ Some orders
+      → part_of (k + 1) (spelled e.history) ≡ orders
 
 -- a heap was full for a caller when it last had no room: all places of its region were used; the
 -- two stamps are the common object's at the end, which is how many orders were applied, and nothing

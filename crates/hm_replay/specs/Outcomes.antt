@@ -5,7 +5,7 @@ use Rattle.hm_orders.specs.ReportText.{AddsFront}
 use Rattle.hm_agreement.specs.Spelled.{spelled}
 use Rattle.hm_cellbook.specs.declared.usage.BookUsage.{BookUsage}
 use Rattle.hm_cells.specs.Closing.{Ended}
-use Rattle.hm_replay.specs.Concluding.{WasFullAt}
+use Rattle.hm_replay.specs.Concluding.{IsFirstFull, WasFullAt}
 use Rattle.hm_replay.specs.Headline.{IsReplay, Replayed, text_of}
 use Rattle.hm_replay.specs.Loading.{AreHeld, IsCause}
 use Rattle.hm_replay.specs.Refusals.{IsTold, file_unread, names_failed, status_of}
@@ -13,7 +13,8 @@ use Rattle.hm_replay.specs.declared.conclusion.FullAt.{FullAt}
 use Rattle.hm_replay.specs.declared.refusal.Refused.{Refused}
 use Rattle.hm_replay.specs.declared.refusal.Refused.TheVariants.{Memory, Words, Files, Text, Read, Write, Full, Long}
 
--- the heap of a replay of the named files was full for a caller
+-- the heap of a replay of the named files was full for a caller, the first that could not finish;
+-- its counts are those of the closed cells
 pub record StoppedAt (told : List ℕ → Option (List ℕ)) (names : List (List ℕ))
     (closed : Option (Ended BookUsage)) (full : Option FullAt) (caller : ℕ) : Type 0 where
   pub cells : Ended BookUsage
@@ -25,6 +26,7 @@ pub record StoppedAt (told : List ℕ → Option (List ℕ)) (names : List (List
   pub files : List (List Order)
   pub held : AreHeld told names files
   pub was : WasFullAt files cells.history at
+  pub first : IsFirstFull files cells at
 
 -- why a replay ended with a refusal: by the words; by what the shelf tells of the named files; by a
 -- heap that was full; or by a write, after the files were replayed; want of memory may come at any

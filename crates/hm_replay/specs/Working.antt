@@ -8,6 +8,7 @@ use Rattle.hm_cells.specs.Facts.{Facts, sight_of}
 use Rattle.hm_heap.specs.Mutators.{AreSameCallers}
 use Rattle.hm_desk.specs.Desk.{AreOwn, KeepsBook}
 use Rattle.hm_desk.specs.Progress.{HasCome}
+use Rattle.hm_desk.specs.Stalling.{IfStalled, IsUsedUp}
 use Rattle.hm_replay.specs.declared.conclusion.Came.{Came}
 use Rattle.hm_replay.specs.Concluding.{HasEnded}
 
@@ -25,13 +26,14 @@ pub record IsReady (s : Facts BookUsage) (orders : List Order) : Type 0 where
   pub fresh : IsFresh (sight_of s)
   pub span : (sight_of s).span ≡ 4096
 
--- a caller is at work on a heap, and what it notes is so
+-- a caller is at work on a heap, and what it notes is so; where it stalled, its region is used up
 pub record IsAtWork (w : Working) : Type 0 where
   pub keeps : KeepsBook no_limits (sight_of w.pass)
   pub own : AreOwn (sight_of w.pass) w.orders
   pub span : (sight_of w.pass).span ≡ 4096
   pub come : HasCome (sight_of w.pass) w.orders w.came.progress
   pub ended : HasEnded w.orders w.came.progress.next w.came.progress.told w.came.worked
+  pub up : IfStalled w.came.worked (λ place. IsUsedUp (sight_of w.pass))
 
 -- each pass is ready for the orders of its file
 pub record AreReady (passes : List (Facts BookUsage)) (files : List (List Order)) : Type 0 where

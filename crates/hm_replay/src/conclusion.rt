@@ -3,7 +3,7 @@ ghost use Rattle.std.specs.Prelude.{◌≡◌, ◌+◌, ℕ, List, All, IfOk, If
 ghost use Rattle.hm_orders.specs.declared.order.Order.{Order};
 ghost use Rattle.hm_model.specs.declared.entry.Entry.{Entry};
 ghost use Rattle.hm_agreement.specs.Spelled.{spelled};
-ghost use Rattle.hm_replay.specs.Concluding.{CameTo, HasFinished, HaveCome, IfFull, TellsAll, WasFullAt};
+ghost use Rattle.hm_replay.specs.Concluding.{CameTo, HasFinished, HasStalled, HaveCome, IfFull, TellsAll, WasFullAt};
 
 use crate::report::report_of;
 use hm_desk::{Progress, Worked};
@@ -90,6 +90,7 @@ pub(crate) fn conclude(alloc: Global, came: Vec<Came>) -> Result<Report, Stopped
         → CameTo files history came.items → TellsAll files history report) }
     ensures full { IfErr result (IfFull (λ at. (files : List (List Order)) (history : List Entry)
         → CameTo files history came.items → WasFullAt files history at)) }
+    ensures stalled { IfErr result (IfFull (HasStalled came.items)) }
 {
     if let Err(stopped) = all_finished(came.as_slice()) {
         return Err(stopped);
@@ -103,6 +104,7 @@ pub(crate) fn all_finished(came: &[Came]) -> Result<(), Stopped>
     ensures finished { OnOk result (All HasFinished came.now) }
     ensures full { IfErr result (IfFull (λ at. (files : List (List Order)) (history : List Entry)
         → CameTo files history came.now → WasFullAt files history at)) }
+    ensures stalled { IfErr result (IfFull (HasStalled came.now)) }
 {
     let root = orders_applied(came);
     for (caller, c) in came.iter().enumerate() {

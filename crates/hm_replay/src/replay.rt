@@ -5,7 +5,7 @@ ghost use Rattle.hm_cells.specs.Closing.{AreAll};
 ghost use Rattle.hm_cells.specs.Facts.{IsAtRest};
 ghost use Rattle.hm_replay.specs.Loading.{AreOfFiles};
 ghost use Rattle.hm_replay.specs.Headline.{IsBookHeap, IsReplay};
-ghost use Rattle.hm_replay.specs.Concluding.{IfFull, TellsAll, WasFullAt};
+ghost use Rattle.hm_replay.specs.Concluding.{IfFull, IsFirstFull, TellsAll, WasFullAt};
 ghost use Rattle.hm_replay.specs.Working.{AreJobs, AreReady, HaveWorked, IsAtWork, Working, Works};
 
 use crate::conclusion::{Came, Stopped, conclude};
@@ -45,6 +45,8 @@ pub(crate) fn replay<R: Threads + Sync, G: Gate + Sync>(
         (TellsAll (map (λ orders. orders.items) files.items) e.history)) }
     ensures full { IfSome result.closed (λ e. IfErr result.ended
         (IfFull (WasFullAt (map (λ orders. orders.items) files.items) e.history))) }
+    ensures first { IfSome result.closed (λ e. IfErr result.ended
+        (IfFull (IsFirstFull (map (λ orders. orders.items) files.items) e))) }
 {
     let Ok((heap, passes)) = open(alloc, files.as_slice()) else {
         return Replayed {

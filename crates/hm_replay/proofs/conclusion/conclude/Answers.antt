@@ -3,7 +3,7 @@ use Rattle.std.proofs.Common.{List, subst}
 use Rattle.hm_orders.specs.declared.order.Order.{Order}
 use Rattle.hm_model.specs.declared.entry.Entry.{Entry}
 use Rattle.hm_replay.specs.declared.conclusion.Came.{Came}
-use Rattle.hm_replay.specs.Concluding.{CameTo, IfFull, WasFullAt}
+use Rattle.hm_replay.specs.Concluding.{CameTo, HasStalled, IfFull, WasFullAt}
 use Rattle.hm_replay.proofs.conclusion.conclude.Goals as goal
 
 pub returns-in-Err-clause-full : goal.returns-in-Err-clause-full
@@ -11,3 +11,8 @@ returns-in-Err-clause-full c =
     subst (λ (came : List Came). IfFull (λ at. (files : List (List Order)) (history : List Entry)
     → CameTo files history came → WasFullAt files history at) c.in-Err.stopped)
     c.as_slice.ensures.value c.in-Err.ensures.full
+
+pub returns-in-Err-clause-stalled : goal.returns-in-Err-clause-stalled
+returns-in-Err-clause-stalled c =
+    subst (λ (came : List Came). IfFull (HasStalled came) c.in-Err.stopped)
+    c.as_slice.ensures.value c.in-Err.ensures.stalled

@@ -5,7 +5,7 @@ use Rattle.hm_orders.specs.declared.order.Order.{Order}
 use Rattle.hm_orders.specs.declared.report.Report.{Report}
 use Rattle.hm_replay.specs.declared.conclusion.Stopped.{Stopped}
 use Rattle.hm_replay.specs.declared.conclusion.Stopped.TheVariants as stopped
-use Rattle.hm_replay.specs.Concluding.{IfFull, TellsAll, WasFullAt}
+use Rattle.hm_replay.specs.Concluding.{IfFull, IsFirstFull, TellsAll, WasFullAt}
 use Rattle.hm_replay.proofs.Outcomes.{front, headline, lines, never_full, never_memory, nothing_named, replayed, stopped_at, whole_front, why_unwritten}
 use Rattle.hm_replay.proofs.outcome.replay_files.Goals as goal
 
@@ -17,7 +17,9 @@ returns-in-Err-Full-clause-why g c =
     stopped_at _ files (length c.in-Ok.files.items) (sym (length-map c.in-Ok.files.items (λ orders. orders.items)))
     c.in-Err-Full.at c.replay-closed.result.closed (λ none. never_full _ _ is (ran.unmade none)) ran.heap
     (subst (λ (a : Result Report Stopped). IfSome c.replay-closed.result.closed (λ e. IfErr a (IfFull (WasFullAt files e.history))))
-    is ran.full) _ c.in-Ok.ensures.orders
+    is ran.full)
+    (subst (λ (a : Result Report Stopped). IfSome c.replay-closed.result.closed (λ e. IfErr a (IfFull (IsFirstFull files e))))
+    is ran.first) _ c.in-Ok.ensures.orders
 
 pub returns-in-Err-Full-clause-front : goal.returns-in-Err-Full-clause-front
 returns-in-Err-Full-clause-front g c = nothing_named _ _ _

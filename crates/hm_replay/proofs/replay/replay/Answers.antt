@@ -1,5 +1,5 @@
 -- The callers came to the whole history of the closed cells.
-use Rattle.hm_replay.proofs.Ended.{come_to, full_of, replay_of, tells_of}
+use Rattle.hm_replay.proofs.Ended.{come_to, first_at, full_of, replay_of, tells_of}
 use Rattle.hm_replay.proofs.replay.replay.Goals as goal
 
 pub conclude-requires : goal.conclude-requires
@@ -40,6 +40,14 @@ returns-in-Some-clause-full g c =
     (come_to c.args.files.items c.requires.files c.close.result c.in-Ok.heap closed.site _ c.as_slice.ensures.value
     c.in-Ok.ensures.heap closed.whole _ ran.all closed.passes _ c.as_slice-2.ensures.value c.in-Ok.passes.items _
     c.in-Some.came c.in-Some.is ran.worked)
+
+pub returns-in-Some-clause-first : goal.returns-in-Some-clause-first
+returns-in-Some-clause-first g c =
+    let closed = c.close.ensures in
+    let ran = c.work_all-passes.ensures in
+    first_at c.args.files.items c.requires.files c.close.result c.in-Ok.heap closed.site _ c.as_slice.ensures.value
+    c.in-Ok.ensures.heap closed.whole _ ran.all closed.passes _ c.as_slice-2.ensures.value c.in-Ok.passes.items _
+    c.in-Some.came c.in-Some.is ran.worked _ c.conclude.ensures.stalled
 
 pub returns-clause-heap : goal.returns-clause-heap
 returns-clause-heap g c =
