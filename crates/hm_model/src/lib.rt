@@ -16,8 +16,8 @@
 //! | Create | its name is its caller's next one, and what it names is there | one object more, with stamp 0 |
 //! | Fetch | its answer is what the object holds | the same store |
 //! | Store | its object and what it names are there | one field replaced, the stamp raised by one |
-//! | StoreIf, Stored | the object has the given stamp | all fields replaced, the stamp raised by one |
-//! | StoreIf, Changed | the object has another stamp, which is the answer | the same store |
+//! | StoreIf, Stored | what it names is there; the object has the given stamp | all fields replaced, the stamp raised by one |
+//! | StoreIf, Changed | what it names is there; the object has another stamp, the answer | the same store |
 //!
 //! A history is *legal* where it begins with the entries that make the starting objects, and each entry may come next
 //! in the store that those before it leave. A *usage* ([`Usage`]) says besides which stores are lawful and which
@@ -28,9 +28,9 @@
 //! with that entry as the last that the caller has seen, behind whatever others made meanwhile. So a caller reads back
 //! what it stored ([`store_and_fetch`]), and knows nothing of when others see it.
 //!
-//! An object is kept in *versions*, its copies in a version chain. A create, a store, and a fetch while the collector
-//! copies, each take a version of the caller's *room*, and are refused as [`Full`] where there is none. A [`Worker`] is
-//! a caller that does a bounded piece of the collector's work when it is told to: [`Worker::tend`].
+//! An object is kept in *versions*, its copies in a version chain. A create and a store take a version each of the
+//! caller's *room*, and are refused as [`Full`] where there is none; a fetch takes one at most, while its caller copies.
+//! A [`Worker`] is a caller that does a bounded piece of the collector's work when it is told to: [`Worker::tend`].
 //!
 //! No clause speaks of what another caller has seen.
 #![tactic(auto)]
