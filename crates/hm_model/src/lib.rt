@@ -16,8 +16,8 @@
 //! | Create | its name is its caller's next one, and what it names is there | one object more, with stamp 0 |
 //! | Fetch | its answer is what the object holds | the same store |
 //! | Store | its object and what it names are there | one field replaced, the stamp raised by one |
-//! | StoreIf, Stored | what it names is there; the object has the given stamp | all fields replaced, the stamp raised by one |
-//! | StoreIf, Changed | what it names is there; the object has another stamp, the answer | the same store |
+//! | StoreIf, Stored | its stamp is as given; what it names is there | all fields replaced, the stamp raised by one |
+//! | StoreIf, Changed | its stamp is another, the answer; what it names is there | the same store |
 //!
 //! A history is *legal* where it begins with the entries that make the starting objects, and each entry may come next
 //! in the store that those before it leave. A *usage* ([`Usage`]) says besides which stores are lawful and which
@@ -28,8 +28,8 @@
 //! with that entry as the last that the caller has seen, behind whatever others made meanwhile. So a caller reads back
 //! what it stored ([`store_and_fetch`]), and knows nothing of when others see it.
 //!
-//! An object is kept in *versions*, its copies in a version chain. A create and a store take a version each of the
-//! caller's *room*, and are refused as [`Full`] where there is none; a fetch takes one at most, while its caller copies.
+//! An object is kept in *versions*, its copies in a version chain. A create and a store take a version each of their
+//! caller's *room*, and are refused as [`Full`] where there is none; a fetch takes one at most, while it is copying.
 //! A [`Worker`] is a caller that does a bounded piece of the collector's work when it is told to: [`Worker::tend`].
 //!
 //! No clause speaks of what another caller has seen.
