@@ -53,9 +53,9 @@ module _ {U : Type 0} where
   CarriesPass c s = (j k : ℕ) × (v : View U) × Carries c.views j k v s.part
 
   module _ (lawful : U → PlainStore → Type 0) (allowed : U → PlainStore → Entry → Type 0) where
-    -- the rule of the Table held to the end: its last words and views were those of a good
-    -- machine, which is safe, gave each version out once, and gives none in reach out again; all
-    -- its history is the cells', and its stage is their last one
+    -- the rule held to the end: there is a good machine, which is safe, gave each version out at
+    -- most once, and gives none in reach out again; all its history is the cells', and its stage
+    -- is their last one
     pub record HeldToTheEnd (e : Ended U) : Type 0 where
       pub core : Core U
       pub good : Good lawful allowed e.site core

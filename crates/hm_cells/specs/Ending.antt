@@ -44,8 +44,8 @@ module _ {U : Type 0} where
 
 module _ {U : Type 0} (lawful : U → PlainStore → Type 0) (allowed : U → PlainStore → Entry → Type 0)
   where
-    -- the rule held to the end: the last words and views were those of a good machine, in which
-    -- this seat has seen the whole history, and the stage has this word
+    -- the rule held to the end: there is a good machine, in which this view has seen the whole
+    -- history, and its stage has this word
     pub record EndsWith (g : Site U) (v : View U) (stage : ℕ) : Type 0 where
       pub core : Core U
       pub good : Good lawful allowed g core
