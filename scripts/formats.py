@@ -70,7 +70,8 @@ class Reading:
         require(0 < fill.taker == len(self.orders), "the taker is the order above it")
         require(self.orders[-1].fate in TRADES, "an order with that fate has no fills")
         require(0 < fill.maker < fill.taker, "the maker is an earlier order")
-        require(self.orders[fill.maker - 1].fate == "rested", "the maker did not rest")
+        maker = self.orders[fill.maker - 1]
+        require(maker.fate == "rested", "the maker did not rest")
         require(1 <= fill.price <= MOST_NUMBER, "that is no price")
         require(1 <= fill.quantity <= MOST_NUMBER, "that is no quantity")
         require(self.prices.setdefault(fill.maker, fill.price) == fill.price, "the maker has another price")
@@ -81,6 +82,7 @@ class Reading:
             require(step or fill.maker > self.last.maker, "at one price the earlier maker comes first")
             self.way = self.way or step
         require(fill.maker not in self.gone, "the maker was filled before")
+        require(self.rest[maker.file], "no order of the maker's file rests")
         self.last = fill
         self.fills.append(fill)
 

@@ -1,53 +1,13 @@
-"""A plain replay, written from docs/FORMATS.md; it shares no code with the program. Unproved."""
-import heapq
+"""A report beside a plain replay of its own interleaving; it shares no code with the program. Unproved."""
 import io
 
+from book import Book
 from calls import shown
 from formats import ORDER_LINE
 
 
 class Unsound(Exception):
     """The first line of a report that is not the one of its interleaving: its number, and what is said of it."""
-
-
-class Book:
-    """A plain book: the resting orders of each side, best first."""
-
-    def __init__(self):
-        self.heaps = {"B": [], "S": []}  # (key, root number, price): the least goes first
-        self.left = {}  # root number -> [quantity left, name of the order]
-        self.names = set()  # (file, id) of the resting orders
-        self.root = self.fills = 0
-
-    def best(self, side):
-        """The best price of a side, or None."""
-        return self.heaps[side][0][2] if self.heaps[side] else None
-
-    def apply(self, file, row, order):
-        """The lines of the report for one order: its own, and then those of its fills."""
-        self.root += 1
-        name, left, fills = (file, order.id), order.quantity, []
-        fate = "repeated" if name in self.names else None
-        others = self.heaps["S" if order.side == "B" else "B"]
-        while fate is None and left > 0 and others:
-            _, maker, price = others[0]
-            if price > order.price if order.side == "B" else price < order.price:
-                break
-            resting = self.left[maker]
-            taken = min(left, resting[0])
-            left, resting[0], self.fills = left - taken, resting[0] - taken, self.fills + 1
-            fills.append("fill %d %d %d %d %d" % (self.fills, self.root, maker, price, taken))
-            if resting[0] == 0:
-                heapq.heappop(others)
-                self.names.remove(self.left.pop(maker)[1])
-        if fate is None:
-            fate = "rested" if left else "filled"
-            if left:
-                key = -order.price if order.side == "B" else order.price
-                heapq.heappush(self.heaps[order.side], (key, self.root, order.price))
-                self.left[self.root] = [left, name]
-                self.names.add(name)
-        return ["order %d %d %d %s" % (self.root, file, row, fate)] + fills
 
 
 class Walk:

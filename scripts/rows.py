@@ -3,10 +3,15 @@ import re
 from collections import namedtuple
 
 from calls import Bad, named, read_bytes
+from records import records_of
 
 MOST_FILES, MOST_BYTES, MOST_ROWS, MOST_NUMBER = 8, 67108864, 1000000, 4294967295
+PARTS = ("kind", "id", "side", "price", "quantity")  # the fields of a row
+KINDS = {b"L": "limit order", b"I": "immediate order", b"M": "market order", b"C": "cancel"}
+EMPTY = {b"M": ("price",), b"C": ("side", "price", "quantity")}  # the fields that a kind does not use
+LEAST = {"id": 0, "price": 1, "quantity": 1}
 
-Row = namedtuple("Row", "id side price quantity")
+Row = namedtuple("Row", PARTS)  # the value of a field that is not used is None
 
 
 class Refused(Exception):
@@ -20,33 +25,39 @@ def number(field, least):
     return int(field)
 
 
-def rows_of(data):
-    """The rows of a file's bytes, each with the number of its line: lines without bytes are no rows."""
-    at, last = 1, 0
-    for found in re.finditer(b"[^\n]+", data):
-        at, last = at + data.count(b"\n", last, found.start()), found.start()
-        yield at, found[0]
+def value_of(part, field):
+    """The value that a field spells, or None where it is refused."""
+    if part in LEAST:
+        return number(field, LEAST[part])
+    return field.decode() if field in (KINDS if part == "kind" else (b"B", b"S")) else None
 
 
-def order_of(row, line):
+def order_of(row, fields):
     """The order of a row, or Refused with the row and its first refused part."""
-    fields = line.split(b",", 5)
-    if row > MOST_ROWS or len(fields) != 5:
+    if row > MOST_ROWS or len(fields) != len(PARTS):
         raise Refused(row, "toomany" if row > MOST_ROWS else "fields")
-    kind, name, side, price, quantity = fields
-    found = Row(number(name, 0), side.decode("latin-1"), number(price, 1), number(quantity, 1))
-    is_refused = {"kind": kind != b"L", "id": found.id is None, "side": side not in (b"B", b"S"),
-                  "price": found.price is None, "quantity": found.quantity is None}
-    for part in is_refused:
-        if is_refused[part]:
+    values, empty = [], EMPTY.get(fields[0], ())
+    for part, field in zip(PARTS, fields):
+        values.append(None if part in empty else value_of(part, field))
+        if field != b"" if part in empty else values[-1] is None:
             raise Refused(row, part)
-    return found
+    return Row(*values)
+
+
+def spelled(order):
+    """An order in words."""
+    if order.kind == "C":
+        return "cancel of id %d" % order.id
+    kind, side = KINDS[order.kind.encode()].split()[0], "buy" if order.side == "B" else "sell"
+    return "%s %s of %d%s, id %d" % (
+        kind, side, order.quantity, "" if order.price is None else " at %d" % order.price, order.id)
 
 
 def orders_of(path, file):
     """The orders of a file, by its place among the files of a replay."""
     try:
-        return [order_of(row, line) for row, (_, line) in enumerate(rows_of(read_bytes(path, MOST_BYTES)), 1)]
+        return [order_of(row, record.fields)
+                for row, record in enumerate(records_of(read_bytes(path, MOST_BYTES)), 1)]
     except Refused as refused:
         raise Bad("hm refuses row %d of %s, file %d, by its part %s" % (
             refused.args[0], named(path), file, refused.args[1]))

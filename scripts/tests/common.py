@@ -1,12 +1,12 @@
-"""Calls of the program and of the scripts, and the worked files of docs/FORMATS.md."""
+"""Calls of the program and of the scripts, and reports of rows that are applied in some order."""
 import os
-import re
 import shutil
 import subprocess
 import tempfile
 import unittest
 
-from replay import Book
+from book import Book
+from rows import Row
 
 TOP = os.path.dirname(os.path.dirname(os.path.dirname(os.path.realpath(__file__))))
 PROGRAM = os.path.join(TOP, "crates", "hm_tool", "out", "hm_tool")
@@ -87,6 +87,49 @@ class Case(unittest.TestCase):
             self.assertIn(word, error)
 
 
+class Built(Case):
+    """A test of the built program."""
+
+    def setUp(self):
+        super().setUp()
+        self.assertTrue(os.access(PROGRAM, os.X_OK), PROGRAM + " is missing; rt ci leaves the program there")
+
+
+def rows_at_random(chance, count, ids, prices=8):
+    """Rows of all kinds, with so many ids and prices."""
+    return [Row(kind, chance.randrange(ids), None if kind == "C" else chance.choice("BS"),
+                None if kind in "MC" else 1 + chance.randrange(prices), None if kind == "C" else chance.randrange(1, 9))
+            for kind in chance.choices("LIMC", (6, 1, 1, 1), k=count)]
+
+
+def bytes_at_random(chance):
+    """A short file: rows that are mostly right, and bytes that are likely to be read wrongly."""
+    numbers, data = (b"1",) * 6 + (b"2",) * 6 + (b"007", b"4294967295", b"4294967296"), b""
+    for _ in range(chance.randrange(4)):
+        kind = chance.choice((b"L", b"I", b"M", b"C"))
+        price, quantity = (b"" if kind in empty else chance.choice(numbers) for empty in (b"MC", b"C"))
+        row = [kind, chance.choice(numbers), b"" if kind == b"C" else chance.choice((b"B", b"S")), price, quantity]
+        data += b",".join(b'"%b"' % it if chance.randrange(4) == 0 else it for it in row)
+        data += chance.choice((b"\n", b"\r\n", b"\r", b"\n\n", b"\r\r"))
+    for _ in range(chance.choice((0, 0, 1, 2))):
+        at = chance.randrange(len(data) + 1)
+        data = data[:at] + chance.choice((b'"', b'""', b",", b"\r", b"\n", b" ", b"\0", b"\xff", b"1")) + data[at:]
+    return (b"\xef\xbb\xbf" if chance.randrange(5) == 0 else b"") + data
+
+
+def same_rows(data):
+    """Other files with the same rows, of which none has a comma or the end of a line in a field."""
+    quoted = b"\n".join(b",".join(b'"%b"' % field for field in row.replace(b'"', b"").split(b",")) if row else row
+                        for row in data.split(b"\n"))
+    return [data.rstrip(b"\n"), quoted, data.replace(b"\n", b"\r\n"), data.replace(b"\n", b"\r"),
+            b"\xef\xbb\xbf" + data, b"\xef\xbb\xbf" + quoted.replace(b"\n", b"\r\n")]
+
+
+def written(rows):
+    """The bytes of a file with these rows."""
+    return "".join(",".join("" if value is None else str(value) for value in row) + "\n" for row in rows).encode()
+
+
 def in_turn(files):
     """The report of files of rows that are applied in turn, a row of each."""
     return report_of(files, [(file, row) for row in range(max(map(len, files))) for file in range(len(files))
@@ -106,52 +149,3 @@ def report_of(files, places):
     lines += ["board" + "".join(" %d" % len(rows) for rows in files),
               "end %d %d %d" % (book.root, book.fills, len(book.left))]
     return "".join(line + "\n" for line in lines).encode()
-
-
-class Worked:
-    """A worked file: its bytes, and its report or the line that refuses it."""
-
-    def __init__(self, name, data, report=None, refusal=None):
-        self.name, self.data, self.report, self.refusal = name, data, report, refusal
-
-
-def worked():
-    """The worked files of docs/FORMATS.md."""
-    text = content("docs", "FORMATS.md").decode().split("## Ten worked files\n")[1]
-    for number, item in enumerate(re.split(r"(?m)^\d+\. ", text)[1:], 1):
-        lines = item.split("\n")
-        indented = [line.strip() for line in lines if line.startswith(" " * 7) or not line]
-        rows, report = [], []
-        for line in indented:
-            (report if report or line.startswith(("order ", "board ")) else rows).append(line)
-        while rows and not rows[-1]:
-            rows.pop()
-        while rows and not rows[0]:
-            rows.pop(0)
-        data = "\n".join(rows) + ("" if "has no line\n   feed" in item or not rows else "\n")
-        prose = " ".join(line.strip() for line in lines if not line.startswith(" " * 7))
-        if report:
-            answer = "".join(line + "\n" for line in report if line)
-            yield Worked("%d" % number, data.encode(), report=answer.encode())
-        elif rows:
-            yield Worked("%d" % number, data.encode(), refusal=re.search(r"`(hm: [^`]+)`", prose)[1])
-        else:
-            yield from worked_rows(number, re.findall(r"`([^`]+)`", prose))
-
-
-def worked_pair():
-    """The two worked files of docs/FORMATS.md, and the two reports that a replay of both may print."""
-    text = content("docs", "FORMATS.md").decode().split("## Two worked files together\n")[1].split("\n## ")[0]
-    blocks = re.findall(r"(?m)(?:^    .+\n)+", text)
-    first, second, *reports = [re.sub("(?m)^    ", "", block).encode() for block in blocks]
-    return (first, second), reports
-
-
-def worked_rows(number, marked):
-    """Rows in the prose of an item, each with the next refusal, or with the last one."""
-    refusals = [word for word in marked if word.startswith("hm: ")]
-    for word in marked:
-        if word.startswith("hm: "):
-            refusals = refusals[1:] or refusals
-        elif "," in word:
-            yield Worked("%d, %s" % (number, word), word.encode() + b"\n", refusal=refusals[0])

@@ -1,18 +1,15 @@
-"""The built program: each status with its text, real devices, and the worked files."""
+"""The built program: each status with its text, real devices, and the demo."""
 import os
 import random
 import re
 import resource
 
-from common import LONGEST, PAIRS, PROGRAM, ROW, Case, content, path, worked
+from common import LONGEST, PAIRS, ROW, Built, content, path, rows_at_random, written
 
 # What a file holds (bytes, or how many zero bytes), and how a replay of it ends.
 FILES = [
     ("no byte", b"", 0, b""),
     ("a row that is refused", ROW + b"L,2,B,0,5\n", 3, b"hm: text 1 2 price\n"),
-    ("bytes that are no text", b"\xff\x00\n", 3, b"hm: text 1 1 fields\n"),
-    ("lines that end in CR LF", b"L,1,B,10,5\r\n", 3, b"hm: text 1 1 quantity\n"),
-    ("a row too many", ROW * 1000001, 3, b"hm: text 1 1000001 toomany\n"),
     ("more orders than the heap has room for", PAIRS, 6, b"hm: full 1\n"),
     ("as many bytes as a file may have", LONGEST, 3, b"hm: text 1 1 fields\n"),
     ("a byte more than a file may have", LONGEST + 1, 7, b"hm: long 1\n"),
@@ -22,11 +19,7 @@ WORDS = [[], ["replay"], ["frob", "f"], ["replay", ""], ["replay", "-"], ["repla
          [b"replay", b"\xff"], [b"replay", b"f", b"\xff"], [b"\xff", b"f"]]
 
 
-class Program(Case):
-    def setUp(self):
-        super().setUp()
-        self.assertTrue(os.access(PROGRAM, os.X_OK), PROGRAM + " is missing; rt ci leaves the program there")
-
+class Program(Built):
     def test_each_file_ends_with_its_status_and_text(self):
         for what, data, status, err in FILES:
             with self.subTest(what):
@@ -85,15 +78,6 @@ class Program(Case):
             self.assertEqual(self.hm("frob", stderr=full).returncode, 2)
             self.assertEqual(self.hm("replay", self.made(b"x"), stderr=full).returncode, 3)
 
-    def test_the_worked_files(self):
-        for case in worked():
-            with self.subTest(case.name):
-                done = self.hm("replay", self.made(case.data))
-                if case.refusal:
-                    self.says(done, 3, err=case.refusal.encode() + b"\n")
-                else:
-                    self.says(done, 0, out=case.report)
-
     def test_the_example_of_the_readme(self):
         text = content("README.md").decode().split("## A report\n")[1].split("```")
         parts = [re.findall("`(L,[^`]+)`", part) for part in text[0].split("a second one")]
@@ -111,23 +95,23 @@ class Program(Case):
 
     def test_demo_run_prints_the_report_and_draws_it(self):
         os.makedirs(os.path.join(self.folder, "demo", "two"))
-        for name in ("demo/run", "demo/first.csv", "demo/two/a.csv", "demo/two/b.csv"):
+        for name in ("demo/run", "demo/first.csv", "demo/kinds.csv", "demo/two/a.csv", "demo/two/b.csv"):
             self.made(content(*name.split("/")), name)
         self.made(b'#!/bin/sh\nexec "%s" "$@"\n' % os.fsencode(path("crates/hm_tool/out/hm_tool")), "hm")
         os.symlink(path("scripts"), os.path.join(self.folder, "scripts"))
         for name in ("demo/run", "hm"):
             os.chmod(os.path.join(self.folder, name), 0o755)
         done = self.call(os.path.join(self.folder, "demo", "run"))
-        self.assertEqual((done.returncode, done.stdout), (0, content("crates", "hm_tool", "stdout")))
+        reports = content("crates", "hm_tool", "stdout") + content("demo", "kinds.report")
+        self.assertEqual((done.returncode, done.stdout), (0, reports))
         with open(os.path.join(self.folder, "demo", "first.svg"), "rb") as picture:
             self.assertEqual(picture.read(), content("demo", "first.svg"))
         self.assertRegex(done.stderr, rb"20 replays of the two files in demo/two, .*; distinct reports: [1-9]\d?; ")
-        self.assertEqual(sorted(os.listdir(self.folder + "/demo/out")), ["first.txt", "two.svg", "two.txt"])
+        self.assertEqual(sorted(os.listdir(self.folder + "/demo/out")),
+                         ["first.txt", "kinds.svg", "kinds.txt", "two.svg", "two.txt"])
 
     def test_the_plain_replay_agrees_on_random_files(self):
         chance = random.Random(7)
         for number in range(12):
-            rows = ["L,%d,%s,%d,%d\n" % (chance.randrange(40), chance.choice("BS"), chance.randrange(1, 12),
-                                         chance.randrange(1, 9)) for _ in range(20 * number)]
             with self.subTest(number):
-                self.is_sound(self.made("".join(rows).encode()))
+                self.is_sound(self.made(written(rows_at_random(chance, 20 * number, 40, 11))))

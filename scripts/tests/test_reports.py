@@ -4,10 +4,11 @@ import random
 import xml.etree.ElementTree as tree
 
 from calls import Bad
-from common import Case, worked, worked_pair
+from common import Case
 from formats import read_report
 from replay import Unsound, Walk
 from rows import orders_of
+from worked import worked, worked_pair
 
 ROWS = b"L,1,B,10,5\nL,2,S,9,3\n"
 PAIR = b"order 1 1 1 rested\norder 2 2 1 filled\nfill 1 2 1 10 5\nboard 1 1\nend 2 1 0\n"
@@ -63,6 +64,18 @@ BROKEN = [
     ("a maker that was filled", GOOD.replace(b"filled", b"rested")[:GOOD.index(b"board")]
      + b"order 3 1 3 filled\nfill 2 3 1 10 1\n", "the maker was filled before"),
     ("a maker twice under an order", GOOD[:GOOD.index(b"board")] + b"fill 2 2 1 10 3\n", "the earlier maker comes first"),
+    ("a fill under a cancel", GOOD.replace(b"filled", b"cancelled"), "an order with that fate has no fills"),
+    ("a fill under a cancel of no order", GOOD.replace(b"filled", b"unknown"), "an order with that fate has no fills"),
+    ("a cancel at once", b"order 1 1 1 cancelled\n", "line 1 is 'order 1 1 1 cancelled', but no order of its file"),
+    ("a cancel of another file's order", PAIR.replace(b"filled", b"cancelled"), "line 2 is 'order 2 2 1 cancelled'"),
+    ("two cancels of one order", b"order 1 1 1 rested\norder 2 1 2 cancelled\norder 3 1 3 cancelled\n", "line 3 is"),
+    ("repeated after a cancel", b"order 1 1 1 rested\norder 2 1 2 cancelled\norder 3 1 3 repeated\n", "line 3 is"),
+    ("a maker that was taken out", b"order 1 1 1 rested\norder 2 1 2 cancelled\norder 3 1 3 dropped\nfill 1 3 1 9 1\n",
+     "line 4 is 'fill 1 3 1 9 1', but no order of the maker's file rests"),
+    ("a maker that was filled by a dropped order", GOOD.replace(b"filled", b"dropped")[:GOOD.index(b"board") + 1]
+     + b"order 3 1 3 filled\nfill 2 3 1 10 1\n", "the maker was filled before"),
+    ("more at rest than were left", b"order 1 1 1 rested\norder 2 1 2 cancelled\nboard 2\nend 2 0 1\n",
+     "from 0 to 0 orders can rest"),
     ("prices that rise and fall", b"order 1 1 1 rested\norder 2 1 2 rested\norder 3 1 3 rested\norder 4 1 4 filled\n"
      b"fill 1 4 1 5 1\nfill 2 4 2 6 1\nfill 3 4 3 5 1\n", "line 7 is 'fill 3 4 3 5 1', but the prices"),
 ]

@@ -92,7 +92,7 @@ class Repository(Case):
     def test_programs_are_measured_on_a_file_that_is_cut_into_several(self):
         shutil.copytree(path("scripts"), self.folder + "/scripts", ignore=shutil.ignore_patterns("__pycache__"))
         rows = self.made(b"L,1,B,10,5\n\nL,2,B,10,1\nL,1,S,9,5\n", "rows")
-        files = [[Row(1, "B", 10, 5)], [Row(2, "B", 10, 1), Row(1, "S", 9, 5)]]
+        files = [[Row("L", 1, "B", 10, 5)], [Row("L", 2, "B", 10, 1), Row("L", 1, "S", 9, 5)]]
         report = in_turn(files).decode().rstrip("\n")
         for name in ("crates/hm_tool/out/hm_tool", "peer"):
             self.program(name, report, 0)

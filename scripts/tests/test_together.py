@@ -1,7 +1,8 @@
 """The built program on several files: statuses, the worked files, and replays that the plain replay agrees with."""
 import random
 
-from common import LONGEST, PAIRS, ROW, Case, path, worked_pair
+from common import LONGEST, PAIRS, ROW, Built, path, rows_at_random, written
+from worked import worked_pair
 
 # What files hold, and how a replay of them together ends. None: the file is not there.
 TOGETHER = [
@@ -19,7 +20,7 @@ TOGETHER = [
 ]
 
 
-class Together(Case):
+class Together(Built):
     def test_files_together_end_with_their_status_and_text(self):
         for what, datas, status, err in TOGETHER:
             with self.subTest(what):
@@ -42,7 +43,11 @@ class Together(Case):
     def test_each_replay_of_many_files_is_sound(self):
         chance = random.Random(11)
         for count in range(2, 9):
-            rows = [["L,%d,%s,%d,%d\n" % (chance.randrange(20), chance.choice("BS"), chance.randrange(1, 6),
-                                          chance.randrange(1, 9)) for _ in range(12)] for _ in range(count)]
             with self.subTest(count):
-                self.is_sound(*self.made_all("".join(file).encode() for file in rows))
+                self.is_sound(*self.made_all(written(rows_at_random(chance, 12, 20, 5)) for _ in range(count)))
+
+    def test_an_order_trades_with_its_own_file_and_a_cancel_names_an_order_of_its_own(self):
+        own, other = b"L,1,B,10,5\nL,2,S,9,2\n", b"C,1,,,\n" * 3
+        for _ in range(20):
+            report = self.is_sound(*self.made_all((own, other)))
+            self.assertEqual((report.count(b" unknown\n"), report[-10:]), (3, b"end 5 1 1\n"))
