@@ -2,6 +2,7 @@
 import re
 
 from common import Case, content
+from worked import worked
 
 ALLOWED = "Allowed is replay and the names of one to 8 files, each of which is UTF-8, not empty, and does not begin "
 NINE = list("abcdefghi")
@@ -23,12 +24,21 @@ LINES = [
     ("hm: words", ["replay", b"\xff"], "the word for file 1, '\\udcff', is not UTF-8", ALLOWED),
     ("hm: text 1 2 price", ["./hm", "replay", "FILE"], "Row 2 of FILE (its line 3)"),
     ("hm: text 1 2 price", ["crates/hm_tool/out/hm_tool", "replay", "FILE"], "Row 2 of FILE (its line 3)"),
-    ("hm: text 1 1 kind", ["replay", "MARK"], "begins with a UTF-8 byte order mark (ef bb bf)"),
-    ("hm: text 1 1 fields", ["replay", "WIDE"], "begins with a UTF-16 byte order mark (ff fe)"),
-    ("hm: text 1 1 quantity", ["replay", "CRLF"], "ends in a carriage return, as where lines end in CR LF: tr -d"),
-    ("hm: text 1 2 fields", ["replay", "CRLF"], "ends in a carriage return"),
-    ("hm: text 1 2 price", ["replay", "FILE"], "Row 2 of FILE (its line 3)", "'L,2,B,0,5'", "from 1 to"),
-    ("hm: text 1 3 fields\n", ["replay", "FILE"], "Row 3 of FILE", "'a\\xff'", "exactly five fields"),
+    ("hm: text 1 2 kind", ["replay", "MARKS"], "'\\xef\\xbb\\xbfL'", "begins with a UTF-8 byte order mark (ef bb bf)"),
+    ("hm: text 1 1 kind", ["replay", "MARKS"], "The row is 'L,1,B,10,5'.", "that row is accepted"),
+    ("hm: text 1 1 kind", ["replay", "WIDE"], "begins with a UTF-16 byte order mark (ff fe)"),
+    ("hm: text 1 3 side", ["replay", "LINES"], "Row 3 of LINES (its line 4)", "the side, is 'x'; that of an immediate"),
+    ("hm: text 1 2 quantity", ["replay", "LINES"], "that row is accepted"),
+    ("hm: text 1 1 kind", ["replay", "HEADER"], "Row 1 of HEADER (its line 1)", "it has to be L (limit), I ",
+     "M (market) or C (cancel)", "No header is read"),
+    ("hm: text 1 1 fields", ["replay", "NAMES"], "It has 2 fields", "No header is read"),
+    ("hm: text 1 1 price", ["replay", "QUOTED"], "is 'L,1,B, \"10\",5'", "quotes are taken off where the field's"),
+    ("hm: text 1 2 quantity", ["replay", "QUOTED"], "is '5\\n'", "so the row goes on to line 3: a quote that begins"),
+    ("hm: text 1 3 fields", ["replay", "QUOTED"], "It has 4 fields", "so the row goes on to the end of the file: "),
+    ("hm: text 1 2 price", ["replay", "FILE"], "Row 2 of FILE (its line 3)", "'L,2,B,0,5'", "is '0'", "from 1 to"),
+    ("hm: text 1 3 fields\n", ["replay", "FILE"], "Row 3 of FILE", "'a\\xff'", "It has 1 field; a row has exactly"),
+    ("hm: text 1 1 fields", ["replay", "WIDEST"], "It has more than five fields; a row has exactly five fields"),
+    ("hm: text 1 1000001 toomany", ["replay", "LONG"], "Row 1000001 of LONG (its line 1000001)", "at most 1000000"),
     ("hm: text 1 1 kind", ["replay", "FILE"], "that row is accepted"),
     ("hm: text 2 2 side", ["replay", "other", "FILE"], "Row 2 of FILE", "refused by its part price"),
     ("hm: text 8 2 price", ["replay", *NINE[:7], "FILE"], "Row 2 of FILE (its line 3)", "'L,2,B,0,5'"),
@@ -71,9 +81,14 @@ class Explain(Case):
     def setUp(self):
         super().setUp()
         self.made(b"L,1,B,10,5\n\nL,2,B,0,5\na\xff\n", "FILE")
-        self.made(b"\xef\xbb\xbfL,1,B,10,5\n", "MARK")
+        self.made(b"\xef\xbb\xbfL,1,B,10,5\n" * 2, "MARKS")
         self.made("\ufeffL,1,B,10,5\n".encode("utf-16-le"), "WIDE")
-        self.made(b"L,1,B,10,5\r\n\r\n", "CRLF")
+        self.made(b"L,1,B,10,5\r\n\r\nM,1,B,,5\rI,1,x,10,5\r\n", "LINES")
+        self.made(b"\xef\xbb\xbfKind,Id,Side,Price,Quantity\r\n", "HEADER")
+        self.made(b"side,price\n", "NAMES")
+        self.made(b'L,1,B, "10",5\nL,1,B,10,"5\n"\nL,1,B,"10,5\n', "QUOTED")
+        self.made(b"," * 70000, "WIDEST")
+        self.made(b"C,1,,,\n" * 1000001, "LONG")
 
     def test_each_line(self):
         for line, words, *parts in LINES:
@@ -83,6 +98,22 @@ class Explain(Case):
                 self.assertEqual(done.stdout.count(b"\n"), 1)
                 for part in parts:
                     self.assertIn(part, done.stdout.decode())
+
+    def test_each_refused_row_is_explained_for_its_kind(self):
+        kinds = {b"L": "a limit order", b"I": "an immediate order", b"M": "a market order", b"C": "a cancel"}
+        refused = [case for case in worked() if case.refusal and case.data.count(b"\n") == 1]
+        self.assertGreater(len(refused), 20)
+        for case in refused:
+            with self.subTest(case.name):
+                done = self.script("explain", case.refusal, "replay", self.made(case.data, "ROW"))
+                told, part = done.stdout.decode(), case.refusal.split()[-1]
+                self.assertEqual((done.returncode, told.count("\n")), (0, 1))
+                self.assertIn("is refused by its part %s (status 3). The row is '%s" % (part, case.name), told)
+                self.assertNotIn("As the file is now", told)
+                if part not in ("fields", "kind"):
+                    self.assertIn("; that of %s is " % kinds[case.data[:1]], told)
+        done = self.script("explain", "hm: text 1 1 price", "replay", self.made(b"M,1,B,10,5", "ROW"))
+        self.assertIn(b"The fourth field, the price, is '10'; that of a market order is empty.\n", done.stdout)
 
     def test_what_is_no_line(self):
         for words in NO_LINES:
