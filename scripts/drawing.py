@@ -8,12 +8,11 @@ STYLE = "text{font:13px sans-serif;fill:#222}.title{font-size:17px;font-weight:b
 LETTER = 8  # how wide a letter is at most, more or less
 
 
-def page(width, height, title, colours, parts):
-    """The whole picture, with a colour for each kind of rectangle."""
-    style = STYLE + "".join(".%s{fill:%s}" % pair for pair in colours.items())
+def page(width, height, title, style, parts):
+    """The whole picture, with a style for its marks besides that of all pictures."""
     head = '<svg xmlns="http://www.w3.org/2000/svg" width="%d" height="%d" viewBox="0 0 %d %d">' % (
         width, height, width, height)
-    told = "<title>%s</title>\n<style>%s</style>" % (title, style)
+    told = "<title>%s</title>\n<style>%s</style>" % (title, STYLE + style)
     return "\n".join([head, told, bar(0, 0, width, height, "back")] + parts + ["</svg>"])
 
 

@@ -3,7 +3,9 @@ import math
 from collections import Counter
 
 from drawing import bar, line, many, marks, text
+from fates import tick
 from formats import FATES
+from rows import spelled
 
 LEFT, RIGHT = 134, 1154
 LANES, FILLS = (112, 282), (376, 590)  # top and bottom of the strips
@@ -26,13 +28,14 @@ def empty(strip, words):
     return text((LEFT + RIGHT) / 2, sum(strip) / 2 + 5, words, "mid")
 
 
-def ticks(orders, slot, high):
-    """A tick for each order."""
+def ticks(orders, rows, slot, high):
+    """A tick for each order; on hover also what its row says, where the rows are known."""
     wide = max(min(slot * .7, 9), 1.2)
     for order in orders:
         x, y = LEFT + (order.root - .5) * slot - wide / 2, LANES[0] + (order.file - 1) * high
-        told = "order %d: file %d, row %d, %s" % order
-        yield bar(x, y + 3, wide, high - 6, order.fate, told)
+        row = ", " + spelled(rows[order.root - 1]) if rows else ""
+        told = "order %d: file %d, row %d%s, %s" % (order.root, order.file, order.row, row, order.fate)
+        yield tick(order.fate, x, y + 3, wide, high - 6, told)
 
 
 def columns(orders, size):
@@ -63,8 +66,13 @@ def gathered_ticks(orders, slot, high, size):
     return parts, most
 
 
-def lanes(report):
-    """The first strip: a lane for each file."""
+def is_gathered(report):
+    """Whether there are more orders than ticks fit."""
+    return len(report.orders) > MOST
+
+
+def lanes(report, order_rows):
+    """The first strip: a lane for each file. The rows of the orders are told, if known."""
     words = "root number (the order's place among all orders applied)"
     parts, slot = root_axis(len(report.orders), LANES, words)
     high = (LANES[1] - LANES[0]) / len(report.board)
@@ -74,15 +82,16 @@ def lanes(report):
         parts.append(bar(LEFT, y + 1, RIGHT - LEFT, high - 2, "lane"))
         parts.append(text(LEFT - 8, name_y, "file %d" % (file + 1), "end"))
         parts += [text(LEFT - 8, name_y + 16, many(rows, "order"), "end")] if high >= 36 else []
-    size = math.ceil(len(report.orders) / MOST)
-    told = "Orders: each tick is one order, in the lane of its file" if report.orders else "Orders"
-    if size > 1:
+    told = "Orders: each tick is one order, in the lane of its file; its shape and colour show its fate" \
+        if report.orders else "Orders"
+    if is_gathered(report):
+        size = math.ceil(len(report.orders) / MOST)
         bars, most = gathered_ticks(report.orders, slot, high, size)
         told = "Orders, gathered: each column is %s; a bar is a file's share of them, split by fate, and one as " \
             "tall as its lane is %s or more" % (many(size, "order"), many(most, "order"))
         parts += bars
     elif report.orders:
-        parts += ticks(report.orders, slot, high)
+        parts += ticks(report.orders, order_rows, slot, high)
     else:
         parts.append(empty(LANES, "no orders: %s without rows" % many(len(report.board), "file")))
     return parts + [text(LEFT, LANES[0] - 8, told)]
