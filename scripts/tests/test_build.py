@@ -8,8 +8,8 @@ from rows import files_of
 
 TOOLS = ("awk", "bash", "cat", "dirname", "env", "find", "mkdir", "mktemp", "mv", "readlink", "rm", "sh", "tail",
          "tee", "touch")
-# What stands in the toolchain's place: it notes its calls, and builds a program that prints the demo's report, and for
-# two files one and the other report by turns.
+# What stands in the toolchain's place: it notes its calls, and builds a program that prints the demo's reports, for two
+# files one and the other report by turns.
 RT = b"""#!/bin/bash
 echo "${PWD##*/} $*" >>"$NOTES"
 echo "rt: many words"
@@ -18,7 +18,8 @@ if [ "$1" = run ]; then mkdir -p out; cp "$MADE" out/hm_tool; chmod +x out/hm_to
 """
 PROGRAM = b"""#!/bin/bash
 cd "%b"
-if [ $# -lt 3 ]; then cat first; elif [ -e turn ]; then rm turn; cat one; else >turn; cat other; fi
+if [[ $2 = */kinds.csv ]]; then cat kinds; elif [ $# -lt 3 ]; then cat first
+elif [ -e turn ]; then rm turn; cat one; else >turn; cat other; fi
 """
 CRATES = b"# Some.\nlow:\nother: low\nmiddle: low kit\nhm_tool: middle low\nlast: hm_tool\n"
 
@@ -31,12 +32,14 @@ class Build(Case):
             os.mkdir(os.path.join(self.folder, name))
         for name in ("low", "other", "middle", "hm_tool", "last"):
             os.mkdir(os.path.join(self.folder, "crates", name))
-        for name in ("hm", "demo/run", "demo/first.csv", "demo/two/a.csv", "demo/two/b.csv", ".ci/run"):
+        for name in ("hm", "demo/run", "demo/first.csv", "demo/kinds.csv", "demo/two/a.csv", "demo/two/b.csv",
+                     ".ci/run"):
             shutil.copy(path(name), os.path.join(self.folder, name))
         os.symlink(path("scripts"), self.folder + "/scripts")
         two = files_of([path("demo", "two", "a.csv"), path("demo", "two", "b.csv")])
-        for name, report in (("first", content("crates", "hm_tool", "stdout")), ("one", one_by_one(two)),
-                             ("other", in_turn(two))):
+        reports = (("first", content("crates", "hm_tool", "stdout")), ("kinds", content("demo", "kinds.report")),
+                   ("one", one_by_one(two)), ("other", in_turn(two)))
+        for name, report in reports:
             self.made(report, name)
         self.made(CRATES, "crates.txt")
         os.chmod(self.made(RT, "bin/rt"), 0o755)
@@ -67,23 +70,29 @@ class Build(Case):
         self.assertEqual(done.stderr.splitlines()[-3:], [
             b"rt: many words", b"rt: not proved", b"hm: middle did not build, as the lines above say"])
 
-    def test_demo_run_makes_the_report_and_the_picture(self):
+    def test_demo_run_makes_the_reports_and_the_pictures(self):
         done = self.alone("demo/run")
-        self.assertEqual((done.returncode, done.stdout), (0, content("crates", "hm_tool", "stdout")))
-        for name, wanted in (("first.svg", content("demo", "first.svg")), ("out/first.txt", done.stdout)):
+        first, kinds = content("crates", "hm_tool", "stdout"), content("demo", "kinds.report")
+        self.assertEqual((done.returncode, done.stdout), (0, first + kinds))
+        for name, wanted in (("first.svg", content("demo", "first.svg")), ("out/first.txt", first),
+                             ("out/kinds.txt", kinds)):
             with open(os.path.join(self.folder, "demo", name), "rb") as file:
                 self.assertEqual(file.read(), wanted)
-        self.assertEqual(sorted(os.listdir(self.folder + "/demo/out")), ["first.txt", "two.svg", "two.txt"])
+        self.assertEqual(sorted(os.listdir(self.folder + "/demo/out")),
+                         ["first.txt", "kinds.svg", "kinds.txt", "two.svg", "two.txt"])
         self.assertIn(b"each sound by scripts/report_check; distinct reports: 2; ", done.stderr)
         with open(self.folder + "/demo/out/two.txt") as kept, open(self.folder + "/one") as last:
             self.assertEqual(kept.read(), last.read())
 
-    def test_demo_run_keeps_no_report_of_two_files_that_is_not_sound(self):
-        self.made(content("crates", "hm_tool", "stdout"), "one")
-        done = self.alone("demo/run")
-        self.assertEqual(done.returncode, 70)
-        self.assertIn(b"and there should be ", done.stderr.splitlines()[-1])
-        self.assertEqual(os.listdir(self.folder + "/demo/out"), ["first.txt"])
+    def test_demo_run_keeps_no_report_that_is_not_sound(self):
+        for name, kept in (("one", ["first.txt", "kinds.svg", "kinds.txt"]), ("kinds", ["first.txt"])):
+            shutil.rmtree(self.folder + "/demo/out", ignore_errors=True)
+            self.made(content("crates", "hm_tool", "stdout"), name)
+            with self.subTest(name):
+                done = self.alone("demo/run")
+                self.assertEqual(done.returncode, 70)
+                self.assertIn(b"and there should be ", done.stderr.splitlines()[-1])
+                self.assertEqual(sorted(os.listdir(self.folder + "/demo/out")), kept)
 
     def test_demo_run_leaves_what_was_there_where_it_fails(self):
         self.made(b"old", "demo/first.svg")
