@@ -3,18 +3,31 @@ import re
 from collections import namedtuple
 
 MARK = b"\xef\xbb\xbf"  # the byte order mark, U+FEFF in UTF-8
-ENDS = re.compile(b"[\r\n]*")
-# A field that begins with a quote goes on to the first quote that is not doubled, or to the end of the file, and then,
-# like one that does not, to the next comma or end of a line. Each byte is taken in one way, so nothing is tried again.
-FIELD = re.compile(b'"([^"]*(?:""[^"]*)*)"?([^,\r\n]*)|[^,\r\n]*')
+ENDS, PLAIN, QUOTES = re.compile(b"[\r\n]*"), re.compile(b"[^,\r\n]*"), re.compile(b'"+')
 KEPT = 6  # fields of a record: one more than a row may have
 
 Record = namedtuple("Record", "start end fields")  # where it starts and ends, and the first fields of it
 
 
-def field_of(found):
-    """The bytes of a field, without the quotes around them."""
-    return found[0] if found[1] is None else found[1].replace(b'""', b'"') + found[2]
+def closing(data, at):
+    """Where the quote stands that closes the bytes from here on, or the end of the file.
+
+    Of some quotes in a row each two are a quote of the field, so the last one closes it where their number is odd.
+    """
+    for quotes in QUOTES.finditer(data, at):
+        if (quotes.end() - quotes.start()) % 2:
+            return quotes.end() - 1
+    return len(data)
+
+
+def field_at(data, at):
+    """The bytes of the field that begins here, without the quotes around them, and where it ends."""
+    if data[at:at + 1] != b'"':
+        end = PLAIN.match(data, at).end()
+        return data[at:end], end
+    quote = closing(data, at + 1)
+    end = PLAIN.match(data, quote + 1).end()
+    return data[at + 1:quote].replace(b'""', b'"') + data[quote + 1:end], end
 
 
 def records_of(data):
@@ -26,10 +39,9 @@ def records_of(data):
             return
         fields, is_over = [], False
         while not is_over:
-            found = FIELD.match(data, at)
+            field, at = field_at(data, at)
             if len(fields) < KEPT:
-                fields.append(field_of(found))
-            at = found.end()
+                fields.append(field)
             is_over = data[at:at + 1] != b","
             at += not is_over
         yield Record(start, at, fields)
