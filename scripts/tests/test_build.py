@@ -3,7 +3,8 @@ import os
 import shutil
 import sys
 
-from common import Case, content, in_turn, one_by_one, path
+from common import Case, content, path
+from orders import in_turn, one_by_one
 from rows import files_of
 
 TOOLS = ("awk", "bash", "cat", "dirname", "env", "find", "mkdir", "mktemp", "mv", "readlink", "rm", "sh", "tail",

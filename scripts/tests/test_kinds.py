@@ -2,8 +2,9 @@
 import random
 import xml.etree.ElementTree as tree
 
-from common import Case, content, in_turn, one_by_one, path, rows_at_random, written
+from common import Case, content, path
 from formats import FATES, read_report
+from orders import in_turn, one_by_one, rows_at_random, written
 from replay import Unsound, Walk
 from rows import orders_of
 

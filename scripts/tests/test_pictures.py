@@ -2,8 +2,9 @@
 import random
 import re
 
-from common import content, in_turn, path, rows_at_random, written
+from common import content, path
 from formats import FATES, read_report
+from orders import in_turn, rows_at_random, written
 from picture import Picture
 from rows import Row
 

@@ -4,7 +4,8 @@ import random
 import re
 import resource
 
-from common import LONGEST, PAIRS, ROW, Built, content, path, rows_at_random, written
+from common import LONGEST, PAIRS, ROW, Built, content, path
+from orders import rows_at_random, written
 
 # What a file holds (bytes, or how many zero bytes), and how a replay of it ends.
 FILES = [

@@ -1,7 +1,8 @@
 """What the built program reads: refused rows, the worked files, and bytes that the plain reader reads too."""
 import random
 
-from common import ROW, Built, bytes_at_random, content, in_turn, same_rows
+from common import ROW, Built, content
+from orders import bytes_at_random, in_turn, same_rows
 from records import records_of
 from rows import Refused, order_of
 from worked import worked

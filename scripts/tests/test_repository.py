@@ -3,7 +3,8 @@ import os
 import re
 import shutil
 
-from common import Case, content, in_turn, path
+from common import Case, content, path
+from orders import in_turn
 from rows import Row
 
 SCRIPTS = ("bench", "bench_files", "explain", "ops", "report_check", "report_csv", "report_svg", "test")

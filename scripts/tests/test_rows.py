@@ -1,7 +1,8 @@
 """The plain reader of order files: records, byte by byte beside a second reader, and the rows that they spell."""
 import random
 
-from common import Case, bytes_at_random, content, in_turn, same_rows
+from common import Case, content
+from orders import bytes_at_random, in_turn, same_rows
 from records import line_of, pieces, records_of
 from rows import Refused, Row, order_of, orders_of, spelled
 from worked import worked

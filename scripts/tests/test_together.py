@@ -1,7 +1,8 @@
 """The built program on several files: statuses, the worked files, and replays that the plain replay agrees with."""
 import random
 
-from common import LONGEST, PAIRS, ROW, Built, path, rows_at_random, written
+from common import LONGEST, PAIRS, ROW, Built, path
+from orders import rows_at_random, written
 from worked import worked_pair
 
 # What files hold, and how a replay of them together ends. None: the file is not there.
