@@ -143,4 +143,3 @@ class Reports(Case):
                               ("report_svg", ["--frob", report])):
             with self.subTest(script=script, words=words):
                 self.is_refused(self.script(script, *words))
-
