@@ -15,7 +15,8 @@ pub mod TakenFills
 pub mod Effects
 pub mod TradesSound
 pub mod SoundSteps
-pub mod AfterLimit
+pub mod Cancels
+pub mod AfterOrder
 pub mod Apart
 pub mod Runs
 pub mod Parts

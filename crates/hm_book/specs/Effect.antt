@@ -92,3 +92,13 @@ abbrev pub effect_of : Limits → Order → ℕ → ℕ → List Resting → Eff
 effect_of limits order root fills book =
     if admits limits order then admitted_effect order.kind order root fills book
     else no_fill Denied book
+
+-- whether an order with this fate came to trade, also where it found nobody to trade with
+abbrev pub came_to_trade : Fate → Bool
+came_to_trade Rested = true
+came_to_trade Filled = true
+came_to_trade Dropped = true
+came_to_trade Cancelled = false
+came_to_trade Unknown = false
+came_to_trade Repeated = false
+came_to_trade Denied = false

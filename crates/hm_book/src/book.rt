@@ -1,13 +1,12 @@
 //! The plain book.
-ghost use Rattle.std.specs.Prelude.{◌≡◌, ◌<◌, length, IsOk, IsTrue, IfOk, OnOk, OnErr};
+ghost use Rattle.std.specs.Prelude.{◌≡◌, ◌<◌, length, IsFalse, IsOk, IfOk, OnOk, OnErr};
 ghost use Rattle.hm_orders.specs.Orders.{IsWellFormed};
-ghost use Rattle.hm_book.specs.Limits.{admits};
-ghost use Rattle.hm_book.specs.Effect.{rests};
+ghost use Rattle.hm_book.specs.Effect.{came_to_trade};
 ghost use Rattle.hm_book.specs.Run.{done_of, empty_state, state_after};
 
 use crate::limits::Limits;
-use crate::trading::trade;
-use hm_orders::{Done, Fills, Kind, Order, Side};
+use crate::trading::carry_out;
+use hm_orders::{Done, Fills, Order, Side};
 use std::alloc::{AllocError, AllocFailed, Global};
 use std::marker::Model;
 
@@ -81,11 +80,16 @@ impl Book {
         self.resting.len() as u64
     }
 
-    /// Applies an order: it trades with the best opposite orders that it crosses, and what is left of it rests. After
-    /// `Memory` nothing has changed.
+    /// Applies an order of any kind under the limits, by the first of these cases that applies:
+    ///
+    /// - the limits do not admit it: it is denied, and does nothing;
+    /// - a cancel takes out the order of its file with its id, which is cancelled, and where none rests it is unknown;
+    /// - an order of its file with its id rests: it is repeated, and does nothing;
+    /// - else it trades with the best opposite orders that it crosses, and is filled where nothing is left of it. What
+    ///   is left of a limit order rests; of an immediate or a market order it is thrown away, and the order is dropped.
+    ///
+    /// After `Memory` nothing has changed.
     pub fn apply(&mut self, limits: &Limits, order: &Order) -> Result<Done, Memory>
-        requires limit { order.now.kind ≡ Kind.Limit }
-        requires admitted { IsTrue (admits limits.now order.now) }
         requires well_formed { IsWellFormed order.now }
         requires room { self.old.applied < 18446744073709551615 }
 
@@ -93,14 +97,14 @@ impl Book {
         ensures book { OnOk result (self.new ≡ state_after limits.now self.old order.now) }
         ensures memory { OnErr result (self.new ≡ self.old) }
 
-        // A repeated order takes no memory.
-        ensures repeated { IsTrue (rests order.now.file order.now.id self.old.book) → IsOk result }
+        // An order that does not come to trade takes no memory.
+        ensures free { IsFalse (came_to_trade (done_of limits.now self.old order.now).fate)
+            → IsOk result }
     {
-        prove!(limits.admits(order));
         let root = self.applied + 1;
         let made = self.fills;
         let alloc = *self.resting.allocator();
-        let outcome = trade(alloc, &mut self.resting, order, root, made)?;
+        let outcome = carry_out(alloc, limits, &mut self.resting, order, root, made)?;
         self.applied = root;
         self.fills += outcome.fills.len() as u64;
         Ok(Done {

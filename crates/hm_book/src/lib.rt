@@ -1,5 +1,7 @@
 //! The order book: resting orders, and what an order that comes does to them.
 //!
+//! An order is a limit, an immediate or a market order, which trade, or a cancel. [`Limits`] may deny an order.
+//!
 //! The book is plain: a list of resting orders in order of root numbers, the numbers that are given to orders in the
 //! order of applying them. `specs/Trading.antt` and `specs/Effect.antt` say what one order does, and `specs/Run.antt`
 //! what a list of orders does and which report tells it. `src/laws.rt` has laws of these definitions.

@@ -24,8 +24,9 @@ impl Limits {
         high: u32::MAX,
     };
 
-    /// Whether the limits admit the order.
-    pub(crate) fn admits(&self, order: &Order) -> bool
+    /// Whether the limits admit the order: its quantity is at most `max_quantity`, and its price, if it has a limit,
+    /// from `low` to `high`. A cancel is always admitted.
+    pub fn admits(&self, order: &Order) -> bool
         ensures { result ≡ admits self.now order.now }
     {
         let has_quantity = order.quantity <= self.max_quantity;
