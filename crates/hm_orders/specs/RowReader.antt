@@ -6,8 +6,8 @@ use Rattle.csv.specs.declared.parser.State.{State}
 use Rattle.csv.specs.declared.reader.Reader.{Reader}
 use Rattle.csv.specs.declared.reader.Trim.TheVariants as trim
 
--- every record is a row: none is a header row, none is refused for its length, and commas, quotes
--- and spaces are as usual; and no read has failed
+-- the reader gives each record as a row, whatever its length and as `csv` reads by default: it
+-- takes none for a header row and trims nothing; and no read has failed
 pub record TakesRows (reader : Reader (Bor (List ℕ))) : Type 0 where
   pub config : reader_config reader ≡ default_config
   pub trims_none : reader_trim reader ≡ trim.None
@@ -15,7 +15,7 @@ pub record TakesRows (reader : Reader (Bor (List ℕ))) : Type 0 where
   pub ready : Ready reader
   pub going : has_failed reader ≡ false
 
--- the rows of bytes that are left to read, in a state of the reader
+-- the rows that are left of the bytes that are left, in a state of the reader
 abbrev pub rows_in : State → Option (List ℕ) → List (List (List ℕ))
 rows_in state None = []
 rows_in state (Some bytes) = records_from default_config (length bytes + 1) state bytes

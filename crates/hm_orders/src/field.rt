@@ -23,7 +23,7 @@ pub fn kind_of(field: &[u8]) -> Option<Kind>
 }
 
 /// The side that a field names, for a kind of order.
-pub fn side(kind: Kind, field: &[u8]) -> Option<Side>
+pub fn side_of(kind: Kind, field: &[u8]) -> Option<Side>
     ensures { result ≡ side_of kind field.now }
 {
     match kind {
@@ -33,7 +33,7 @@ pub fn side(kind: Kind, field: &[u8]) -> Option<Side>
 }
 
 /// The price that a field spells, for a kind of order.
-pub fn price(kind: Kind, field: &[u8]) -> Option<u32>
+pub fn price_of(kind: Kind, field: &[u8]) -> Option<u32>
     ensures { result ≡ price_of kind field.now }
 {
     match kind {
@@ -43,7 +43,7 @@ pub fn price(kind: Kind, field: &[u8]) -> Option<u32>
 }
 
 /// The quantity that a field spells, for a kind of order.
-pub fn quantity(kind: Kind, field: &[u8]) -> Option<u32>
+pub fn quantity_of(kind: Kind, field: &[u8]) -> Option<u32>
     ensures { result ≡ quantity_of kind field.now }
 {
     match kind {

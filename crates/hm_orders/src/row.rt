@@ -3,7 +3,7 @@ ghost use Rattle.std.specs.Prelude.{◌≡◌, ◌≢◌, [], ◌∷◌, length,
 ghost use Rattle.csv.specs.Records.{fields_of};
 ghost use Rattle.hm_orders.specs.Rows.{order_of_fields, order_of_row};
 
-use crate::field::{kind_of, number, price, quantity, side};
+use crate::field::{kind_of, number, price_of, quantity_of, side_of};
 use crate::order::Order;
 use crate::read::Part;
 use csv::ByteRecord;
@@ -11,7 +11,7 @@ use csv::ByteRecord;
 /// How many rows a file may have.
 const MOST_ROWS: u64 = 1_000_000;
 
-/// The fields of a row, as they stand in it.
+/// The fields of a row, by their meaning.
 #[derive(Clone, Copy)]
 struct Fields<'a> {
     kind: &'a [u8],
@@ -63,8 +63,8 @@ fn order_of_fields(file: u32, row: u64, fields: &Fields<'_>) -> Result<Order, Pa
         row,
         kind,
         id: number(fields.id, 0).ok_or(Part::Id)?,
-        side: side(kind, fields.side).ok_or(Part::Side)?,
-        price: price(kind, fields.price).ok_or(Part::Price)?,
-        quantity: quantity(kind, fields.quantity).ok_or(Part::Quantity)?,
+        side: side_of(kind, fields.side).ok_or(Part::Side)?,
+        price: price_of(kind, fields.price).ok_or(Part::Price)?,
+        quantity: quantity_of(kind, fields.quantity).ok_or(Part::Quantity)?,
     })
 }
