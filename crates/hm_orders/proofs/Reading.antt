@@ -54,11 +54,12 @@ module _ (file : ℕ) (bytes : List ℕ) (left : List (List (List ℕ))) (orders
       (order_of_row file (length orders + 1) fields) ≡ Ok order
       → Reads file bytes others (orders ++ order ∷ [])
   goes-on order e =
-      let rest = orders_from file (length orders + 1 + 1) others in
+      let row = length orders + 1 in
+      let rest = orders_from file (row + 1) others in
       let total = rw (next, e) at so_far.total in
       record {
         total = rw (length_push orders order) (sym (one-in-front orders order rest) ∙ total);
-        few = omega (arith, length_push orders order, (row-gives file (length orders + 1) fields order e).0);
+        few = omega (arith, length_push orders order, (row-gives file row fields order e).0);
       }
 
   -- a row that is refused is the file's refusal

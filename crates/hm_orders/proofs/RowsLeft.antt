@@ -19,11 +19,12 @@ within cfg s fields field [] p e =
     let is = (cond_some (ends_at_end s) whole p e).1 in
     omega (arith, ap (λ (q : Read). length q.2) is)
 within cfg s fields field (c ∷ rest) p e =
-    by (is_end (step cfg s c).1) (fields_after (step cfg s c).1 fields field, (step cfg s c).0, rest)
-    (next_record cfg (step cfg s c).0 (fields_after (step cfg s c).1 fields field)
-    (field_after (step cfg s c).1 c field) rest) refl e
-    (within cfg (step cfg s c).0 (fields_after (step cfg s c).1 fields field)
-    (field_after (step cfg s c).1 c field) rest p)
+    let state = (step cfg s c).0 in
+    let fields2 = fields_after (step cfg s c).1 fields field in
+    let field2 = field_after (step cfg s c).1 c field in
+    by (is_end (step cfg s c).1) (fields2, state, rest)
+    (next_record cfg state fields2 field2 rest) refl e
+    (within cfg state fields2 field2 rest p)
   where
     by : (b : Bool) (here : Read) (later : Option Read) → here.2 ≡ rest
         → (if b then Some here else later) ≡ Some p

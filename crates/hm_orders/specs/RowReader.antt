@@ -15,7 +15,7 @@ pub record TakesRows (reader : Reader (Bor (List ℕ))) : Type 0 where
   pub ready : Ready reader
   pub going : has_failed reader ≡ false
 
--- the rows that are left of the bytes that are left, in a state of the reader
+-- the rows that bytes give from a state of the reader on
 abbrev pub rows_in : State → Option (List ℕ) → List (List (List ℕ))
 rows_in state None = []
 rows_in state (Some bytes) = records_from default_config (length bytes + 1) state bytes

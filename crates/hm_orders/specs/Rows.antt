@@ -24,9 +24,8 @@ abbrev pub ◌>>=◌ : {A B E : Type 0} → Result A E → (A → Result B E) �
 abbrev pub most_rows : ℕ
 most_rows = 1000000
 
--- the rows of a file: the records that the crate `csv` reads with its defaults (commas, double
--- quotes, nothing for a blank line), each a list of fields; a byte order mark at the start is left
--- out
+-- the rows of a file, each a list of fields: the records that the crate `csv` reads by default, with
+-- commas, double quotes and no row for a blank line, behind a byte order mark if there is one
 abbrev pub rows_of : List ℕ → List (List (List ℕ))
 rows_of bytes = records default_config (strip_bom bytes)
 
