@@ -1,6 +1,7 @@
 pub mod Accepted
-pub mod Cuts
 pub mod Digits
+pub mod FieldsOf
 pub mod Merged
 pub mod Putting
 pub mod Reading
+pub mod RowsLeft

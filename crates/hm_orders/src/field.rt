@@ -2,7 +2,7 @@
 ghost use Rattle.std.specs.Prelude.{◌≡◌, ◌≤◌, length, if◌then◌else◌};
 ghost use Rattle.std.specs.Str.{all_ascii_digits};
 ghost use Rattle.std.specs.Str.Parse.{digits_value};
-ghost use Rattle.hm_orders.specs.Rows.{kind_of, number_of, side_of};
+ghost use Rattle.hm_orders.specs.Rows.{absent, kind_of, number_of, price_of, quantity_of, side_of, trading_side};
 
 use crate::order::{Kind, Side};
 
@@ -10,24 +10,64 @@ use crate::order::{Kind, Side};
 const MOST_DIGITS: usize = 10;
 
 /// The kind that a field names.
-pub fn kind(field: &[u8]) -> Option<Kind>
+pub fn kind_of(field: &[u8]) -> Option<Kind>
     ensures { result ≡ kind_of field.now }
 {
     match field {
         b"L" => Some(Kind::Limit),
+        b"I" => Some(Kind::Immediate),
+        b"M" => Some(Kind::Market),
+        b"C" => Some(Kind::Cancel),
         _ => None,
     }
 }
 
-/// The side that a field names.
-pub fn side(field: &[u8]) -> Option<Side>
-    ensures { result ≡ side_of field.now }
+/// The side that a field names, for a kind of order.
+pub fn side_of(kind: Kind, field: &[u8]) -> Option<Side>
+    ensures { result ≡ side_of kind field.now }
+{
+    match kind {
+        Kind::Limit | Kind::Immediate | Kind::Market => trading_side(field),
+        Kind::Cancel => absent(field, Side::Neither),
+    }
+}
+
+/// The price that a field spells, for a kind of order.
+pub fn price_of(kind: Kind, field: &[u8]) -> Option<u32>
+    ensures { result ≡ price_of kind field.now }
+{
+    match kind {
+        Kind::Limit | Kind::Immediate => number(field, 1),
+        Kind::Market | Kind::Cancel => absent(field, 0),
+    }
+}
+
+/// The quantity that a field spells, for a kind of order.
+pub fn quantity_of(kind: Kind, field: &[u8]) -> Option<u32>
+    ensures { result ≡ quantity_of kind field.now }
+{
+    match kind {
+        Kind::Limit | Kind::Immediate | Kind::Market => number(field, 1),
+        Kind::Cancel => absent(field, 0),
+    }
+}
+
+/// The side of an order that trades.
+fn trading_side(field: &[u8]) -> Option<Side>
+    ensures { result ≡ trading_side field.now }
 {
     match field {
         b"B" => Some(Side::Buy),
         b"S" => Some(Side::Sell),
         _ => None,
     }
+}
+
+/// What a field that has to be empty stands for.
+fn absent<T: Copy>(field: &[u8], value: T) -> Option<T>
+    ensures { result ≡ absent value field.now }
+{
+    if field.is_empty() { Some(value) } else { None }
 }
 
 /// The number that a field spells, if it is at least `least`.

@@ -3,20 +3,22 @@
 /// What an order does.
 #[derive(Clone, Copy, Debug, PartialEq, Eq)]
 pub enum Kind {
-    /// Trades up to its price, and what is left rests.
+    /// `L`: trades up to its price, and what is left rests.
     Limit,
-    /// Trades up to its price, and what is left is thrown away.
+    /// `I`: trades up to its price, and what is left is thrown away.
     Immediate,
-    /// Trades at any price, and what is left is thrown away.
+    /// `M`: trades at any price, and what is left is thrown away.
     Market,
-    /// Takes out a resting order of its file by its id.
+    /// `C`: takes out a resting order of its file by its id.
     Cancel,
 }
 
 /// The side of an order.
 #[derive(Clone, Copy, Debug, PartialEq, Eq)]
 pub enum Side {
+    /// `B`.
     Buy,
+    /// `S`.
     Sell,
     /// A cancel has no side.
     Neither,
@@ -33,7 +35,7 @@ pub struct Order {
     /// The name that the file gives the order.
     pub id: u32,
     pub side: Side,
-    /// The limit, from 1; 0 where the kind has none.
+    /// The limit, from 1; 0 for a market order and a cancel.
     pub price: u32,
     /// From 1; 0 for a cancel.
     pub quantity: u32,

@@ -1,10 +1,13 @@
 //! Reading order files.
-ghost use Rattle.std.specs.Prelude.{◌≡◌, ◌≤◌, All, length, Ok, IfOk, IfErr};
+ghost use Rattle.std.specs.Prelude.{◌≡◌, ◌≤◌, length, Ok, IfOk, IfErr};
+ghost use Rattle.csv.specs.Records.{fields_of};
 ghost use Rattle.hm_orders.specs.Orders.{AreRowsOf};
 ghost use Rattle.hm_orders.specs.Rows.{RefusesBy, at_row, most_rows, order_of_row, orders_held};
 
-use crate::order::{Kind, Order};
+use crate::order::Order;
 use crate::row::order_of_row;
+use crate::rows::{next_row, row_reader};
+use csv::ByteRecord;
 use std::alloc::{AllocFailed, Global};
 
 /// What is tested of a row, in the order of testing, but for `TooMany`, which comes first.
@@ -12,10 +15,15 @@ use std::alloc::{AllocFailed, Global};
 pub enum Part {
     /// A row has exactly five fields.
     Fields,
+    /// `L`, `I`, `M` or `C`.
     Kind,
+    /// A number: 1 to 10 digits with a value of at most 4294967295.
     Id,
+    /// `B` or `S`; empty for a cancel.
     Side,
+    /// A number of at least 1; empty for a market order and a cancel.
     Price,
+    /// A number of at least 1; empty for a cancel.
     Quantity,
     /// A file has at most 1,000,000 rows.
     TooMany,
@@ -24,7 +32,7 @@ pub enum Part {
 /// The first row that is refused, and its first part that is.
 #[derive(Clone, Copy, Debug, PartialEq, Eq)]
 pub struct TextRefused {
-    /// From 1; empty lines are not counted.
+    /// From 1; blank lines are not counted, and a quoted end of line ends no row.
     pub row: u64,
     pub part: Part,
 }
@@ -49,6 +57,17 @@ impl From<TextRefused> for ReadRefused {
     }
 }
 
+impl From<hm_edge::Memory> for ReadRefused {
+    ghost use Rattle.std.specs.Prelude.{◌≡◌};
+    ghost use Rattle.hm_orders.specs.declared.read.ReadRefused.TheVariants.{Memory};
+
+    ghost from_gives = { λ _ refused. refused ≡ Memory };
+
+    fn from(_memory: hm_edge::Memory) -> ReadRefused {
+        ReadRefused::Memory
+    }
+}
+
 impl<T: Drop> From<AllocFailed<T>> for ReadRefused {
     ghost use Rattle.std.specs.Prelude.{◌≡◌};
     ghost use Rattle.hm_orders.specs.declared.read.ReadRefused.TheVariants.{Memory};
@@ -61,27 +80,30 @@ impl<T: Drop> From<AllocFailed<T>> for ReadRefused {
 }
 
 /// Reads the orders that the bytes hold, as those of this file. At most 1,000,000 rows are read.
+///
+/// # Errors
+///
+/// [`ReadRefused::Text`] with the first row that is refused and its first part that is; [`ReadRefused::Memory`] where
+/// it ran out.
 pub fn read_orders(alloc: Global, file: u32, bytes: &[u8]) -> Result<Vec<Order>, ReadRefused>
     ensures orders { IfOk result (λ orders. orders_held file bytes.now ≡ Ok orders.items) }
     ensures text { IfErr result (RefusesBy (orders_held file bytes.now)) }
     ensures rows { IfOk result (λ orders. AreRowsOf file orders.items) }
-    ensures limits { IfOk result (λ orders. All (λ order. order.kind ≡ Kind.Limit) orders.items) }
     ensures most { IfOk result (λ orders. length orders.items ≤ most_rows) }
 {
+    let mut reader = row_reader(alloc, bytes);
+    let mut fields = ByteRecord::new(alloc);
     let mut orders = Vec::new(alloc);
-    for line in bytes
-        .split(|byte| *byte == b'\n')
-        .filter(|line| !line.is_empty())
-    {
+    while next_row(&mut reader, &mut fields)? {
         let row = orders.len() as u64 + 1;
-        orders.push(order_at(file, row, line)?)?;
+        orders.push(order_at(file, row, &fields)?)?;
     }
     Ok(orders)
 }
 
 /// The order of a row, or its refusal with the row.
-fn order_at(file: u32, row: u64, line: &[u8]) -> Result<Order, TextRefused>
-    ensures { result ≡ at_row row (order_of_row file row line.now) }
+fn order_at(file: u32, row: u64, fields: &ByteRecord) -> Result<Order, TextRefused>
+    ensures { result ≡ at_row row (order_of_row file row (fields_of fields.now)) }
 {
-    order_of_row(file, row, line).map_err(|part| TextRefused { row, part })
+    order_of_row(file, row, fields).map_err(|part| TextRefused { row, part })
 }

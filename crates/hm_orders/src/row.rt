@@ -1,15 +1,17 @@
 //! A row of an order file.
 ghost use Rattle.std.specs.Prelude.{◌≡◌, ◌≢◌, [], ◌∷◌, length, IfSome, IfNone};
-ghost use Rattle.hm_orders.specs.Rows.{fields_of, order_of_fields, order_of_row};
+ghost use Rattle.csv.specs.Records.{fields_of};
+ghost use Rattle.hm_orders.specs.Rows.{order_of_fields, order_of_row};
 
-use crate::field::{kind, number, side};
+use crate::field::{kind_of, number, price_of, quantity_of, side_of};
 use crate::order::Order;
 use crate::read::Part;
+use csv::ByteRecord;
 
 /// How many rows a file may have.
 const MOST_ROWS: u64 = 1_000_000;
 
-/// The fields of a row, as they stand in it.
+/// The fields of a row, by their meaning.
 #[derive(Clone, Copy)]
 struct Fields<'a> {
     kind: &'a [u8],
@@ -20,35 +22,33 @@ struct Fields<'a> {
 }
 
 /// The order that a row spells, or the first part that is refused.
-pub fn order_of_row(file: u32, row: u64, line: &[u8]) -> Result<Order, Part>
-    ensures { result ≡ order_of_row file row line.now }
+pub fn order_of_row(file: u32, row: u64, fields: &ByteRecord) -> Result<Order, Part>
+    ensures { result ≡ order_of_row file row (fields_of fields.now) }
 {
     if row > MOST_ROWS {
         return Err(Part::TooMany);
     }
-    let fields = cut(line).ok_or(Part::Fields)?;
-    order_of_fields(file, row, &fields)
+    let five = five_fields(fields).ok_or(Part::Fields)?;
+    order_of_fields(file, row, &five)
 }
 
-/// The fields between the commas of a row, if they are five.
-fn cut(line: &[u8]) -> Option<Fields<'_>>
-    ensures five { IfSome result (λ fields.
-        fields_of line.now ≡ fields.kind.now ∷ fields.id.now ∷ fields.side.now
-        ∷ fields.price.now ∷ fields.quantity.now ∷ []) }
-    ensures none { IfNone result (length (fields_of line.now) ≢ 5) }
+/// The fields of a row, if they are five.
+fn five_fields(fields: &ByteRecord) -> Option<Fields<'_>>
+    ensures five { IfSome result (λ five.
+        fields_of fields.now ≡ five.kind.now ∷ five.id.now ∷ five.side.now
+        ∷ five.price.now ∷ five.quantity.now ∷ []) }
+    ensures none { IfNone result (length (fields_of fields.now) ≢ 5) }
 {
-    let mut parts = line.split(|byte| *byte == b',');
-    let fields = Fields {
-        kind: parts.next()?,
-        id: parts.next()?,
-        side: parts.next()?,
-        price: parts.next()?,
-        quantity: parts.next()?,
-    };
-    match parts.next() {
-        None => Some(fields),
-        Some(_) => None,
+    if fields.len() != 5 {
+        return None;
     }
+    Some(Fields {
+        kind: fields.get(0)?,
+        id: fields.get(1)?,
+        side: fields.get(2)?,
+        price: fields.get(3)?,
+        quantity: fields.get(4)?,
+    })
 }
 
 /// The order that five fields spell, or the first part that is refused.
@@ -57,13 +57,14 @@ fn order_of_fields(file: u32, row: u64, fields: &Fields<'_>) -> Result<Order, Pa
         (fields.now.kind.now ∷ fields.now.id.now ∷ fields.now.side.now
         ∷ fields.now.price.now ∷ fields.now.quantity.now ∷ []) }
 {
+    let kind = kind_of(fields.kind).ok_or(Part::Kind)?;
     Ok(Order {
         file,
         row,
-        kind: kind(fields.kind).ok_or(Part::Kind)?,
+        kind,
         id: number(fields.id, 0).ok_or(Part::Id)?,
-        side: side(fields.side).ok_or(Part::Side)?,
-        price: number(fields.price, 1).ok_or(Part::Price)?,
-        quantity: number(fields.quantity, 1).ok_or(Part::Quantity)?,
+        side: side_of(kind, fields.side).ok_or(Part::Side)?,
+        price: price_of(kind, fields.price).ok_or(Part::Price)?,
+        quantity: quantity_of(kind, fields.quantity).ok_or(Part::Quantity)?,
     })
 }

@@ -13,19 +13,25 @@ fn the_first_refused_part_of_the_first_refused_row_is_named(rt: HostRuntime) {
     for (text, row, part) in [
         ("L,1,B,10", 1, Part::Fields),
         ("L,1,B,10,5,", 1, Part::Fields),
-        ("\r\nL,1,B,10,5\n", 1, Part::Fields),
         ("X,1,B,10,5", 1, Part::Kind),
-        ("M,1,B,,5", 1, Part::Kind),
         ("L,,B,10,5", 1, Part::Id),
         ("L,00000000001,B,10,5", 1, Part::Id),
+        ("L, 1,B,10,5", 1, Part::Id),
         ("L,1,b,10,5", 1, Part::Side),
+        ("L,1,,10,5", 1, Part::Side),
+        ("C,1,B,,", 1, Part::Side),
         ("L,1,B,+5,1", 1, Part::Price),
         ("L,1,B,0,1", 1, Part::Price),
         ("L,1,B,4294967296,1", 1, Part::Price),
-        ("L,1,B,10,", 1, Part::Quantity),
-        ("L,1,B,10,5\r\n", 1, Part::Quantity),
-        ("L,1,B,10,5\nL,2,B,0,0\nL\n", 2, Part::Price),
-        ("\n\nL,1,B,10,5\n\nL,2,B\n", 2, Part::Fields),
+        ("I,1,S,,1", 1, Part::Price),
+        ("M,1,B,10,5", 1, Part::Price),
+        ("C,1,,5,", 1, Part::Price),
+        ("M,1,S,,", 1, Part::Quantity),
+        ("C,1,,,5", 1, Part::Quantity),
+        ("M,x,b,10,0", 1, Part::Id),
+        ("\n\r\nC,1,,,\n\nL,2,B,0,0\nL\n", 2, Part::Price),
+        // A quoted end of line belongs to its field, and the row that it stands in is one row.
+        ("C,1,,,\nL,\"2\n\n\",B,10,5\nL\n", 2, Part::Id),
     ] {
         let refused = read_orders(rt.alloc(), 1, text.as_bytes()).err();
         let want = ReadRefused::Text(TextRefused { row, part });
@@ -34,28 +40,42 @@ fn the_first_refused_part_of_the_first_refused_row_is_named(rt: HostRuntime) {
 }
 
 #[test]
-fn rows_are_read_as_orders(rt: HostRuntime) -> Result<(), Fail> {
-    let text = b"L,0000000001,B,4294967295,5\n\nL,0,S,09,3";
+fn a_row_past_the_millionth_is_refused(rt: HostRuntime) -> Result<(), Fail> {
+    let mut text = Vec::new(rt.alloc());
+    for _ in 0..1_000_001u64 {
+        text.extend_from_slice(b"C,1,,,\n")?;
+    }
+    let refused = read_orders(rt.alloc(), 1, text.as_slice()).err();
+    let want = TextRefused {
+        row: 1_000_001,
+        part: Part::TooMany,
+    };
+    assert_eq!(rt; refused, Some(ReadRefused::Text(want)));
+    Ok(())
+}
+
+fn order(row: u64, kind: Kind, id: u32, side: Side, price: u32, quantity: u32) -> Order {
+    Order {
+        file: 7,
+        row,
+        kind,
+        id,
+        side,
+        price,
+        quantity,
+    }
+}
+
+#[test]
+fn rows_of_each_kind_are_read_whatever_ends_them(rt: HostRuntime) -> Result<(), Fail> {
+    let text = b"\xEF\xBB\xBFL,0000000001,B,4294967295,5\r\n\r\n\
+        \"I\",\"0\",\"S\",\"09\",\"3\"\rM,2,B,,7\n\nC,4294967295,,,";
     let orders = read_orders(rt.alloc(), 7, text)?;
     let want = [
-        Order {
-            file: 7,
-            row: 1,
-            kind: Kind::Limit,
-            id: 1,
-            side: Side::Buy,
-            price: 4294967295,
-            quantity: 5,
-        },
-        Order {
-            file: 7,
-            row: 2,
-            kind: Kind::Limit,
-            id: 0,
-            side: Side::Sell,
-            price: 9,
-            quantity: 3,
-        },
+        order(1, Kind::Limit, 1, Side::Buy, 4294967295, 5),
+        order(2, Kind::Immediate, 0, Side::Sell, 9, 3),
+        order(3, Kind::Market, 2, Side::Buy, 0, 7),
+        order(4, Kind::Cancel, 4294967295, Side::Neither, 0, 0),
     ];
     assert_eq!(rt; orders.as_slice(), want.as_slice());
     Ok(())
