@@ -37,6 +37,11 @@ pub record Trades (c d : Sight BookUsage) (order : Order) (root made : ℕ) (boo
   pub short : length work ≤ length book
   pub builds : Builds book_lawful book_allowed c d (2 * length fills * (length book + 9))
 
+-- after a fill there are fills
+pub some_fills : (fills : List Fill) (fill : Fill) → fills ++ fill ∷ [] ≡ [] → ⊥
+some_fills [] fill none = cc
+some_fills (x ∷ fills) fill none = cc
+
 -- it begins with no fill
 pub trades_start : (c : Sight BookUsage) (order : Order) (root made : ℕ) (book : List Resting) (resting : ℕ)
     → BeginsOn c root resting book → Trades c c order root made book [] order.quantity resting

@@ -1,6 +1,5 @@
 //! An attempt at an order: the next lists are built, and no object is stored to.
-ghost use Rattle.std.specs.Prelude.{◌≡◌, ◌+◌, ◌-◌, ◌<◌, ◌≤◌, [], ◌∷◌, ℕ, List, Some, IsTrue, IfOk, OnErr, Err, length, slice_index};
-ghost use Rattle.hm_orders.specs.declared.order.Kind.TheVariants.{Limit};
+ghost use Rattle.std.specs.Prelude.{◌≡◌, ◌+◌, ◌-◌, ◌<◌, ◌≤◌, [], ◌∷◌, ℕ, List, Some, IfOk, OnErr, Err, length, slice_index};
 ghost use Rattle.hm_orders.specs.Orders.{IsWellFormed};
 ghost use Rattle.hm_model.specs.declared.root.Root.{Root};
 ghost use Rattle.hm_model.specs.Sight.{AreSet, Rests, name_at, names_of, present};
@@ -12,7 +11,7 @@ ghost use Rattle.hm_book.specs.Limits.{admits};
 ghost use Rattle.hm_book.specs.Run.{next_effect};
 ghost use Rattle.hm_agreement.specs.Agreed.{HasBook};
 ghost use Rattle.hm_agreement.specs.Cells.{HoldsOrder, kind_number};
-ghost use Rattle.hm_cellbook.specs.Cost.{cost};
+ghost use Rattle.hm_cellbook.specs.Cost.{cost, ChangesNothing, LeavesBook};
 ghost use Rattle.hm_cellbook.specs.Fetched.{book_allowed, book_lawful, fetched_contents, WasFetched};
 ghost use Rattle.hm_cellbook.specs.Attempted.{state_at, Applies, LeavesPlaces, TellsOrder};
 
@@ -132,10 +131,10 @@ fn build_next<C: Caller<BookUsage>>(
     c: &mut C,
     at: &Snapshot,
     o: &Order,
+    admitted: bool,
 ) -> Result<Attempt, AttemptRefused>
     requires fetched { WasFetched (C.sight c.old) at.now }
-    requires admitted { IsTrue (admits (C.sight c.old).usage.limits o.now) }
-    requires limit { o.now.kind ≡ Limit }
+    requires admits { admitted ≡ admits (C.sight c.old).usage.limits o.now }
     requires well_formed { IsWellFormed o.now }
     requires stamp { at.now.stamp < 18446744073709551615 }
     ensures shown { (book : List Resting)
@@ -154,13 +153,20 @@ fn build_next<C: Caller<BookUsage>>(
         → Builds book_lawful book_allowed (C.sight c.old) (C.sight c.new) (cost
         (length (next_effect (C.sight c.old).usage.limits (state_at at.now book) o.now).fills)
         (length book) - 2) }
+    ensures needless { (book : List Resting)
+        → HasBook (present (C.sight c.old)) (fetched_contents (C.sight c.old) at.now) book
+        → LeavesBook (next_effect (C.sight c.old).usage.limits (state_at at.now book) o.now)
+        → Builds book_lawful book_allowed (C.sight c.old) (C.sight c.new) 0 }
+    ensures same { IfOk result (λ a. ChangesNothing a.done.fate a.done.fills
+        → names_of (C.sight c.new) a.refs
+        ≡ (fetched_contents (C.sight c.old) at.now).refs) }
     ensures others { SameOutside (C.sight c.old) (C.sight c.new) 8 17 }
     ensures full { result ≡ Err AttemptRefused.Full → (C.sight c.new).room ≡ 0 }
 {
     copy_lists(c);
     let root = at.stamp + 1;
     let made = at.numbers[9];
-    let outcome = apply(alloc, c, o, root, made, at.numbers[8])?;
+    let outcome = apply(alloc, c, o, admitted, root, made, at.numbers[8])?;
     let fills = made + outcome.fills.len() as u64;
     let numbers = numbers_of(o, root, outcome.resting, fills);
     Ok(Attempt {
@@ -193,8 +199,6 @@ pub fn cell_apply<C: Caller<BookUsage>>(
 ) -> Result<Attempt, AttemptRefused>
     requires fetched { WasFetched (C.sight c.old) at.now }
     requires admits { admitted ≡ admits (C.sight c.old).usage.limits o.now }
-    requires admitted { IsTrue admitted }
-    requires limit { o.now.kind ≡ Limit }
     requires well_formed { IsWellFormed o.now }
     requires stamp { at.now.stamp < 18446744073709551615 }
     ensures shown { (book : List Resting)
@@ -213,6 +217,13 @@ pub fn cell_apply<C: Caller<BookUsage>>(
         → Builds book_lawful book_allowed (C.sight c.old) (C.sight c.new) (cost
         (length (next_effect (C.sight c.old).usage.limits (state_at at.now book) o.now).fills)
         (length book) - 2) }
+    ensures needless { (book : List Resting)
+        → HasBook (present (C.sight c.old)) (fetched_contents (C.sight c.old) at.now) book
+        → LeavesBook (next_effect (C.sight c.old).usage.limits (state_at at.now book) o.now)
+        → Builds book_lawful book_allowed (C.sight c.old) (C.sight c.new) 0 }
+    ensures same { IfOk result (λ a. ChangesNothing a.done.fate a.done.fills
+        → names_of (C.sight c.new) a.refs
+        ≡ (fetched_contents (C.sight c.old) at.now).refs) }
     ensures names { (k : ℕ) → k < 8
         → name_at (C.sight c.new).roots k ≡ name_at (C.sight c.old).roots k }
     ensures beyond { (k : ℕ) → 256 ≤ k
@@ -220,8 +231,7 @@ pub fn cell_apply<C: Caller<BookUsage>>(
     ensures unset { OnErr result (AreUnset (C.sight c.new) 8 256) }
     ensures full { result ≡ Err AttemptRefused.Full → (C.sight c.new).room ≡ 0 }
 {
-    prove!(admitted);
-    match build_next(alloc, c, at, o) {
+    match build_next(alloc, c, at, o, admitted) {
         Ok(attempt) => Ok(attempt),
         Err(refused) => {
             clear_places(c, Root(8), Root(256));
