@@ -182,13 +182,15 @@ fn build_next<C: Caller<BookUsage>>(
     })
 }
 
-/// Builds what an order makes of the book that the fetch of root place 0, which names the common object, into places 4
-/// to 7 answered. There was one: what was fetched has just one book.
+/// Builds what an order of any kind makes of the book that the fetch of root place 0, which names the common object,
+/// into places 4 to 7 answered. There was one: what was fetched has just one book. The caller tells whether the limits
+/// admit the order; one that they do not admit is denied.
 ///
-/// It makes cells and stores to no object. Places below 8 name what they named. Where it answers an attempt, its lists
-/// are named at places 8, 9 and 10, places 11 to 16 are unset, and those from 17 on name what they named; after a refusal
-/// all places from 8 on are unset. [`AttemptRefused::Full`] comes only where the caller's room is 0 as the call answers.
-/// A conditional store of the attempt at place 0 with the snapshot's stamp is allowed to the caller whose file the order
+/// It makes cells and stores to no object. An order that leaves the book as it is makes none, and its attempt names the
+/// lists that were fetched. Places below 8 name what they named. Where it answers an attempt, its lists are named at
+/// places 8, 9 and 10, places 11 to 16 are unset, and those from 17 on name what they named; after a refusal all places
+/// from 8 on are unset. [`AttemptRefused::Full`] comes only where the caller's room is 0 as the call answers. A
+/// conditional store of the attempt at place 0 with the snapshot's stamp is allowed to the caller whose file the order
 /// is of.
 pub fn cell_apply<C: Caller<BookUsage>>(
     alloc: Global,

@@ -10,7 +10,9 @@ ghost use Rattle.hm_cellbook.specs.Fetched.{book_allowed, book_lawful};
 ghost use Rattle.hm_cellbook.specs.Working.{Begins, BeginsOn, HasTraded, IsSpotOf, IsWorking, WorksOn};
 
 use crate::attempt::AttemptRefused;
-use crate::pairs::{Spot, TOP, id_key, ids_place, opposite, pair_on, place_of, resting_in, spot_of};
+use crate::pairs::{
+    Spot, TOP, id_key, ids_place, opposite, pair_on, place_of, resting_in, spot_of,
+};
 use crate::usage::BookUsage;
 use hm_book::{Resting, crosses};
 use hm_list::{Key, first, put, remove};

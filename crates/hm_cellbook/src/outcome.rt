@@ -1,4 +1,14 @@
-//! What becomes of an order.
+//! What becomes of an order, by the first row that fits it:
+//!
+//! | Order | Fate |
+//! |---|---|
+//! | the limits do not admit it | denied |
+//! | a cancel whose order rests | cancelled |
+//! | any other cancel | unknown |
+//! | an order of its file with its id rests | repeated |
+//! | trading leaves nothing of it | filled |
+//! | a limit order, of which the rest rests | rested |
+//! | any other, of which the rest is thrown away | dropped |
 ghost use Rattle.std.specs.Prelude.{◌≡◌, ◌≢◌, ◌+◌, ◌*◌, ◌<◌, [], ◌∷◌, ◌++◌, List, Err, IfOk, IfSome, OnOk, is_some, length};
 ghost use Rattle.hm_orders.specs.declared.order.Kind.TheVariants.{Cancel};
 ghost use Rattle.hm_orders.specs.Orders.{IsTradingSide, IsWellFormed};
@@ -14,11 +24,11 @@ ghost use Rattle.hm_cellbook.specs.Working.{Begins, BeginsOn, HasEffect, IsNamed
 
 use crate::attempt::AttemptRefused;
 use crate::fills::{take_out, trade};
-use crate::pairs::{Spot, TOP, id_key, id_of, ids_place, pair_on, place_of, spot_in};
+use crate::pairs::{END, Spot, TOP, id_key, id_of, ids_place, pair_on, place_of, spot_in};
 use crate::usage::BookUsage;
 use hm_book::{Resting, rest_of};
 use hm_list::{clear_places, find, put};
-use hm_model::{Caller, Root};
+use hm_model::Caller;
 use hm_orders::{Fate, Fill, Kind, Order};
 use std::alloc::Global;
 
@@ -44,20 +54,6 @@ fn no_fill(alloc: Global, fate: Fate, resting: u64) -> Outcome
     }
 }
 
-/// Whether an order of this file with this id rests already.
-fn is_repeated<C: Caller<BookUsage>>(c: &mut C, file: u32, id: u32) -> bool
-    requires { IsWorking (C.sight c.old) }
-    ensures repeated { (book : List Resting) → WorksOn (C.sight c.old) book
-        → result ≡ rests file id book }
-    ensures works { (book : List Resting) → WorksOn (C.sight c.old) book
-        → WorksOn (C.sight c.new) book }
-    ensures builds { Builds book_lawful book_allowed (C.sight c.old) (C.sight c.new) 0 }
-    ensures others { SameOutside (C.sight c.old) (C.sight c.new) 11 17 }
-    ensures unset { AreUnset (C.sight c.new) 11 17 }
-{
-    find(c, ids_place(), id_key(file, id), TOP).is_some()
-}
-
 /// Where the order of this file with this id rests, if one does.
 fn find_spot<C: Caller<BookUsage>>(c: &mut C, file: u32, id: u32) -> Option<Spot>
     requires { IsWorking (C.sight c.old) }
@@ -73,6 +69,20 @@ fn find_spot<C: Caller<BookUsage>>(c: &mut C, file: u32, id: u32) -> Option<Spot
 {
     let load = find(c, ids_place(), id_key(file, id), TOP)?;
     Some(spot_in(load))
+}
+
+/// Whether an order of this file with this id rests already.
+fn is_repeated<C: Caller<BookUsage>>(c: &mut C, file: u32, id: u32) -> bool
+    requires { IsWorking (C.sight c.old) }
+    ensures repeated { (book : List Resting) → WorksOn (C.sight c.old) book
+        → result ≡ rests file id book }
+    ensures works { (book : List Resting) → WorksOn (C.sight c.old) book
+        → WorksOn (C.sight c.new) book }
+    ensures builds { Builds book_lawful book_allowed (C.sight c.old) (C.sight c.new) 0 }
+    ensures others { SameOutside (C.sight c.old) (C.sight c.new) 11 17 }
+    ensures unset { AreUnset (C.sight c.new) 11 17 }
+{
+    find_spot(c, file, id).is_some()
 }
 
 /// Lets an order rest.
@@ -107,8 +117,8 @@ fn keeps_rest(kind: Kind) -> bool
     }
 }
 
-/// Trades an order, unless an order of its file with its id rests already. What is left of it rests or is thrown away,
-/// by its kind. So many fills were made before, and so many orders rest.
+/// Trades an order, unless an order of its file with its id rests already; what is left of it rests or is thrown away.
+/// So many fills were made before, and so many orders rest.
 fn trade_order<C: Caller<BookUsage>>(
     alloc: Global,
     c: &mut C,
@@ -215,7 +225,7 @@ pub(crate) fn apply<C: Caller<BookUsage>>(
     ensures full { result ≡ Err AttemptRefused.Full → (C.sight c.new).room ≡ 0 }
 {
     if !admitted {
-        clear_places(c, TOP, Root(17));
+        clear_places(c, TOP, END);
         return Ok(no_fill(alloc, Fate::Denied, resting));
     }
     match order.kind {

@@ -15,6 +15,9 @@ use hm_orders::Side;
 /// The first of the places that walks take as their own.
 pub(crate) const TOP: Root = Root(11);
 
+/// The first place behind them.
+pub(crate) const END: Root = Root(17);
+
 /// The side with which a side trades.
 pub(crate) fn opposite(side: Side) -> Side
     ensures { result ≡ opposite side }

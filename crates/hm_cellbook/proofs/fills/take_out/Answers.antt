@@ -1,4 +1,4 @@
-use Rattle.std.proofs.Common.{arith, ◌≡◌, ◌∙◌, ap, subst, length}
+use Rattle.std.proofs.Common.{arith, ◌∙◌, ap, subst, length}
 use Rattle.hm_orders.specs.Orders.{IsTradingSide}
 use Rattle.hm_list.specs.Cells.{pairs_at}
 use Rattle.hm_cellbook.specs.Working.{place_of}

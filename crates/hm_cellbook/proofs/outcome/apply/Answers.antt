@@ -1,4 +1,4 @@
-use Rattle.std.proofs.Common.{arith, ◌≡◌, ◌≢◌, ◌+◌, ◌∙◌, List, IfOk, length, subst, sym}
+use Rattle.std.proofs.Common.{arith, ◌≢◌, ◌∙◌, List, IfOk, length, subst, sym}
 use Rattle.hm_orders.specs.declared.order.Kind.TheVariants.{Cancel}
 use Rattle.hm_model.specs.Building.{Builds}
 use Rattle.hm_model.proofs.BuildingFacts.{builds_more, builds_rests}

@@ -1,5 +1,4 @@
 use Rattle.std.proofs.Common.{arith, ℕ, ◌≡◌, ◌∙◌, ap, sym}
-use Rattle.hm_list.specs.declared.key.Key.{Key}
 use Rattle.hm_cellbook.proofs.Outcomes.{cancelled_builds, cancelled_effect}
 use Rattle.hm_cellbook.proofs.outcome.cancel.Goals as goal
 
