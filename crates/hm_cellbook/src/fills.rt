@@ -1,5 +1,5 @@
 //! Trading with the orders of the opposite side, best first.
-ghost use Rattle.std.specs.Prelude.{◌≡◌, ◌+◌, ◌*◌, ◌<◌, ◌≤◌, [], nat_le, if◌then◌else◌, ℕ, List, Err, IfOk, OnOk, length, option_and_then, Contains};
+ghost use Rattle.std.specs.Prelude.{◌≡◌, ◌+◌, ◌*◌, ◌<◌, ◌≤◌, [], nat_le, if◌then◌else◌, ℕ, List, Err, IfOk, IsOk, OnOk, length, option_and_then, Contains};
 ghost use Rattle.hm_orders.specs.Orders.{IsTradingSide};
 ghost use Rattle.hm_model.specs.Building.{Builds};
 ghost use Rattle.hm_list.specs.Places.{AreUnset, SameOutside};
@@ -157,6 +157,9 @@ pub(crate) fn trade<C: Caller<BookUsage>>(
         → Builds book_lawful book_allowed (C.sight c.old) (C.sight c.new) (2 * length
         (trades (length book) order.now root (made + 1) order.now.quantity book).fills
         * (length book + 9)) }
+    ensures answered { (book : List Resting) → BeginsOn (C.sight c.old) root resting book
+        → (trades (length book) order.now root (made + 1) order.now.quantity book).fills ≡ []
+        → IsOk result }
     ensures same { IfOk result (λ t. t.fills.items ≡ []
         → SameOutside (C.sight c.old) (C.sight c.new) 11 17) }
     ensures others { SameOutside (C.sight c.old) (C.sight c.new) 8 17 }

@@ -9,7 +9,7 @@
 //! | trading leaves nothing of it | filled |
 //! | a limit order, of which the rest rests | rested |
 //! | any other, of which the rest is thrown away | dropped |
-ghost use Rattle.std.specs.Prelude.{◌≡◌, ◌≢◌, ◌+◌, ◌*◌, ◌<◌, [], ◌∷◌, ◌++◌, List, Err, IfOk, IfSome, OnOk, is_some, length};
+ghost use Rattle.std.specs.Prelude.{◌≡◌, ◌≢◌, ◌+◌, ◌*◌, ◌<◌, [], ◌∷◌, ◌++◌, List, Err, IfOk, IfSome, IsOk, OnOk, is_some, length};
 ghost use Rattle.hm_orders.specs.declared.order.Kind.TheVariants.{Cancel};
 ghost use Rattle.hm_orders.specs.Orders.{IsTradingSide, IsWellFormed};
 ghost use Rattle.hm_model.specs.Building.{Builds};
@@ -17,7 +17,7 @@ ghost use Rattle.hm_list.specs.Places.{AreUnset, SameOutside};
 ghost use Rattle.hm_book.specs.declared.book.Resting.{Resting};
 ghost use Rattle.hm_book.specs.Limits.{admits};
 ghost use Rattle.hm_book.specs.Effect.{cancel_effect, effect_of, keeps_rest, rests, trade_effect};
-ghost use Rattle.hm_cellbook.specs.Cost.{cells_of, ChangesNothing};
+ghost use Rattle.hm_cellbook.specs.Cost.{cells_of, ChangesNothing, LeavesBook};
 ghost use Rattle.hm_cellbook.specs.Fetched.{book_allowed, book_lawful};
 ghost use Rattle.hm_cellbook.specs.Sides.{IsListable};
 ghost use Rattle.hm_cellbook.specs.Working.{Begins, BeginsOn, HasEffect, IsNamed, IsSpotOf, IsWorking, WorksOn};
@@ -137,6 +137,8 @@ fn trade_order<C: Caller<BookUsage>>(
     ensures builds { (book : List Resting) → BeginsOn (C.sight c.old) root resting book
         → Builds book_lawful book_allowed (C.sight c.old) (C.sight c.new)
         (cells_of (trade_effect order.now root made book) (length book)) }
+    ensures answered { (book : List Resting) → BeginsOn (C.sight c.old) root resting book
+        → LeavesBook (trade_effect order.now root made book) → IsOk result }
     ensures same { IfOk result (λ t. ChangesNothing t.fate t.fills.items
         → SameOutside (C.sight c.old) (C.sight c.new) 11 17) }
     ensures others { SameOutside (C.sight c.old) (C.sight c.new) 8 17 }
@@ -184,6 +186,8 @@ fn cancel<C: Caller<BookUsage>>(
     ensures builds { (book : List Resting) → WorksOn (C.sight c.old) book
         → Builds book_lawful book_allowed (C.sight c.old) (C.sight c.new)
         (cells_of (cancel_effect order.now book) (length book)) }
+    ensures answered { (book : List Resting) → WorksOn (C.sight c.old) book
+        → LeavesBook (cancel_effect order.now book) → IsOk result }
     ensures same { IfOk result (λ t. ChangesNothing t.fate t.fills.items
         → SameOutside (C.sight c.old) (C.sight c.new) 11 17) }
     ensures others { SameOutside (C.sight c.old) (C.sight c.new) 8 17 }
@@ -218,6 +222,9 @@ pub(crate) fn apply<C: Caller<BookUsage>>(
     ensures builds { (book : List Resting) → BeginsOn (C.sight c.old) root resting book
         → Builds book_lawful book_allowed (C.sight c.old) (C.sight c.new) (cells_of
         (effect_of (C.sight c.old).usage.limits order.now root made book) (length book)) }
+    ensures answered { (book : List Resting) → BeginsOn (C.sight c.old) root resting book
+        → LeavesBook (effect_of (C.sight c.old).usage.limits order.now root made book)
+        → IsOk result }
     ensures same { IfOk result (λ t. ChangesNothing t.fate t.fills.items
         → SameOutside (C.sight c.old) (C.sight c.new) 11 17) }
     ensures others { SameOutside (C.sight c.old) (C.sight c.new) 8 17 }

@@ -1,13 +1,14 @@
 use Rattle.std.proofs.Common.{arith, ◌≡◌, ◌+◌, ◌∙◌, sym, ap, subst, refl, length, List, ℕ}
 use Rattle.std.specs.Prelude.{slice_index}
+use Rattle.std.proofs.lemmas.Bool.{false≢true}
 use Rattle.hm_orders.specs.declared.report.Fill.{Fill}
 use Rattle.hm_cellbook.specs.declared.usage.BookUsage.{BookUsage}
 use Rattle.hm_book.specs.Effect.{effect_of}
-use Rattle.hm_cellbook.specs.Cost.{ChangesNothing}
+use Rattle.hm_cellbook.specs.Cost.{LeavesBook, changes}
 use Rattle.hm_cellbook.specs.Working.{HasEffect}
 use Rattle.hm_cellbook.proofs.Fetching.{fetched_book}
 use Rattle.hm_cellbook.proofs.Attempts.{may_store_attempt}
-use Rattle.hm_cellbook.proofs.Next.{begins_copied, numbers_few, names_stay, fills_fit, next_cost, next_needless, next_applies, next_tells}
+use Rattle.hm_cellbook.proofs.Next.{begins_copied, numbers_few, names_stay, next_is, fills_fit, next_cost, next_needless, next_applies, next_tells}
 use Rattle.hm_cellbook.proofs.attempt.build_next.Goals as goal
 
 pub apply-requires-clause-begins : goal.apply-requires-clause-begins
@@ -95,13 +96,36 @@ returns-clause-needless g c = λ book has leaves.
     (at.stamp + 1) refl copied.usage.limits (ap (λ (u : BookUsage). u.limits) e.rests.caller.usage)
     copied (g.C.Caller.sight c.apply.new.c) e.rests (c.apply.ensures.builds book begins) leaves
 
-pub returns-clause-same : goal.returns-clause-same
-returns-clause-same g c = λ none.
+pub returns-in_err-outcome-clause-answered : goal.returns-in_err-outcome-clause-answered
+returns-in_err-outcome-clause-answered g c = λ book has leaves.
+    let before = g.C.Caller.sight c.args.c.now in
+    let copied = g.C.Caller.sight c.copy_lists.new.c in
+    let at = c.args.at.now in
     let e = c.copy_lists.ensures in
-    let stays = c.in_ok-outcome.ensures.same (subst
-    (λ (l : List Fill). ChangesNothing c.in_ok-outcome.outcome.fate l) c.new.ensures none) in
-    names_stay (g.C.Caller.sight c.args.c.now) (g.C.Caller.sight c.copy_lists.new.c)
-    (g.C.Caller.sight c.apply.new.c) _ e.bids e.asks e.ids e.others stays c.refs_of.ensures.names
+    let begins = begins_copied before at c.requires.fetched book has copied
+    (at.stamp + 1) e.rests e.bids e.asks e.ids refl in
+    absurd (false≢true (c.in_err-outcome.ensures.answered book begins
+    (subst LeavesBook (sym (next_is before at c.requires.fetched book has before.usage.limits c.args.o.now
+    (at.stamp + 1) refl copied.usage.limits (ap (λ (u : BookUsage). u.limits) e.rests.caller.usage))) leaves)))
+
+pub returns-clause-same : goal.returns-clause-same
+returns-clause-same g c = λ book has leaves.
+    let before = g.C.Caller.sight c.args.c.now in
+    let copied = g.C.Caller.sight c.copy_lists.new.c in
+    let at = c.args.at.now in
+    let e = c.copy_lists.ensures in
+    let begins = begins_copied before at c.requires.fetched book has copied
+    (at.stamp + 1) e.rests e.bids e.asks e.ids refl in
+    let effect = c.in_ok-outcome.ensures.effect book begins in
+    let mine = subst LeavesBook (sym (next_is before at c.requires.fetched book has before.usage.limits
+    c.args.o.now (at.stamp + 1) refl copied.usage.limits
+    (ap (λ (u : BookUsage). u.limits) e.rests.caller.usage))) leaves in
+    let stays = c.in_ok-outcome.ensures.same record {
+      no_fill = effect.fills ∙ mine.no_fill;
+      no_change = ap changes effect.fate ∙ mine.no_change;
+    } in
+    names_stay before copied (g.C.Caller.sight c.apply.new.c) _ e.bids e.asks e.ids e.others stays
+    c.refs_of.ensures.names
 
 pub returns-in_err-outcome-clause-shown : goal.returns-in_err-outcome-clause-shown
 returns-in_err-outcome-clause-shown g c =

@@ -3,7 +3,7 @@ use Rattle.hm_orders.specs.declared.report.Fill.{Fill}
 use Rattle.hm_orders.specs.Orders.{IsTradingSide}
 use Rattle.hm_cellbook.proofs.Sides.{opposite_trades}
 use Rattle.hm_cellbook.proofs.Makers.{maker_is, best_in_book}
-use Rattle.hm_cellbook.proofs.Trades.{Trades, fill_is, trades_start_at, trades_end, out_few, less_left, trades_on, fetched_builds, filled_builds, some_rests, some_fills, maker_there}
+use Rattle.hm_cellbook.proofs.Trades.{Trades, fill_is, trades_start_at, trades_end, out_few, less_left, trades_on, fetched_builds, filled_builds, some_rests, some_fills, filled_few, maker_there}
 use Rattle.hm_model.proofs.BuildingFacts.{builds_none}
 use Rattle.hm_list.proofs.PlaceFacts.{outside_none, outside_then, outside_wider}
 use Rattle.hm_cellbook.specs.Fetched.{book_allowed, book_lawful}
@@ -123,3 +123,19 @@ returns-clause-same g c = λ none.
       | then-loop-left-test+in_default w ↦ rw w.c-is
           (outside_then before now (g.C.Caller.sight w.next_maker.new.c) 11 17 same w.next_maker.ensures.others)
     ]
+
+pub returns-in_err-push-clause-answered : goal.returns-in_err-push-clause-answered
+returns-in_err-push-clause-answered g c = λ book h none.
+    let t = c.loop-left.invariant.trades book h in
+    let next = sym (c.in-Some.ensures.maker t.work t.works) in
+    let few = filled_few _ _ _ _ _ _ _ _ _ t c.in-Some.maker c.loop-left-test.true next in
+    let short = ap (λ (l : List Fill). length l) none in
+    absurd (omega arith)
+
+pub returns-in_err-remaining-clause-answered : goal.returns-in_err-remaining-clause-answered
+returns-in_err-remaining-clause-answered g c = λ book h none.
+    let t = c.loop-left.invariant.trades book h in
+    let next = sym (c.in-Some.ensures.maker t.work t.works) in
+    let few = filled_few _ _ _ _ _ _ _ _ _ t c.in-Some.maker c.loop-left-test.true next in
+    let short = ap (λ (l : List Fill). length l) none in
+    absurd (omega arith)

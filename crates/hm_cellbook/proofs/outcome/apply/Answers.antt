@@ -4,7 +4,7 @@ use Rattle.hm_model.specs.Building.{Builds}
 use Rattle.hm_model.proofs.BuildingFacts.{builds_more, builds_rests}
 use Rattle.hm_book.specs.declared.book.Resting.{Resting}
 use Rattle.hm_book.specs.Effect.{Effect}
-use Rattle.hm_cellbook.specs.Cost.{cells_of}
+use Rattle.hm_cellbook.specs.Cost.{LeavesBook, cells_of}
 use Rattle.hm_cellbook.specs.Fetched.{book_allowed, book_lawful}
 use Rattle.hm_cellbook.specs.Working.{BeginsOn, HasEffect}
 use Rattle.hm_cellbook.proofs.Outcomes.{denied_is, trading_is}
@@ -33,6 +33,7 @@ returns-in-Limit g c =
           → HasEffect after (f book) t.fate t.fills.items t.resting)) (λ i book. trades book i) told.effect;
       builds = λ book h. subst (λ (e : Effect). Builds book_lawful book_allowed before after
           (cells_of e (length book))) (trades book) (told.builds book h);
+      answered = λ book h leaves. told.answered book h (subst LeavesBook (sym (trades book)) leaves);
       same = told.same;
       others = told.others;
       unset = told.unset;
