@@ -11,9 +11,9 @@ ghost use Rattle.hm_book.specs.Limits.{admits};
 ghost use Rattle.hm_book.specs.Run.{next_effect};
 ghost use Rattle.hm_agreement.specs.Agreed.{HasBook};
 ghost use Rattle.hm_agreement.specs.Cells.{HoldsOrder, kind_number};
-ghost use Rattle.hm_cellbook.specs.Cost.{cost, LeavesBook};
+ghost use Rattle.hm_cellbook.specs.Cost.{cost};
 ghost use Rattle.hm_cellbook.specs.Fetched.{book_allowed, book_lawful, fetched_contents, WasFetched};
-ghost use Rattle.hm_cellbook.specs.Attempted.{state_at, Applies, LeavesPlaces, TellsOrder};
+ghost use Rattle.hm_cellbook.specs.Attempted.{state_at, Applies, LeavesFetched, LeavesPlaces, TellsOrder};
 
 use crate::outcome::apply;
 use crate::pairs::side_number;
@@ -153,17 +153,10 @@ fn build_next<C: Caller<BookUsage>>(
         → Builds book_lawful book_allowed (C.sight c.old) (C.sight c.new) (cost
         (length (next_effect (C.sight c.old).usage.limits (state_at at.now book) o.now).fills)
         (length book) - 2) }
-    ensures needless { (book : List Resting)
-        → HasBook (present (C.sight c.old)) (fetched_contents (C.sight c.old) at.now) book
-        → LeavesBook (next_effect (C.sight c.old).usage.limits (state_at at.now book) o.now)
+    ensures needless { LeavesFetched (C.sight c.old) at.now o.now
         → Builds book_lawful book_allowed (C.sight c.old) (C.sight c.new) 0 }
-    ensures answered { (book : List Resting)
-        → HasBook (present (C.sight c.old)) (fetched_contents (C.sight c.old) at.now) book
-        → LeavesBook (next_effect (C.sight c.old).usage.limits (state_at at.now book) o.now)
-        → IsOk result }
-    ensures same { IfOk result (λ a. (book : List Resting)
-        → HasBook (present (C.sight c.old)) (fetched_contents (C.sight c.old) at.now) book
-        → LeavesBook (next_effect (C.sight c.old).usage.limits (state_at at.now book) o.now)
+    ensures answered { LeavesFetched (C.sight c.old) at.now o.now → IsOk result }
+    ensures same { IfOk result (λ a. LeavesFetched (C.sight c.old) at.now o.now
         → names_of (C.sight c.new) a.refs ≡ (fetched_contents (C.sight c.old) at.now).refs) }
     ensures others { SameOutside (C.sight c.old) (C.sight c.new) 8 17 }
     ensures full { result ≡ Err AttemptRefused.Full → (C.sight c.new).room ≡ 0 }
@@ -191,12 +184,12 @@ fn build_next<C: Caller<BookUsage>>(
 /// into places 4 to 7 answered. There was one: what was fetched has just one book. The caller tells whether the limits
 /// admit the order; one that they do not admit is denied.
 ///
-/// It makes cells and stores to no object. An order that leaves the book as it is makes none and is never refused, and
-/// its attempt names the lists that were fetched. Places below 8 name what they named. Where it answers an attempt, its lists are named at
-/// places 8, 9 and 10, places 11 to 16 are unset, and those from 17 on name what they named; after a refusal all places
-/// from 8 on are unset. [`AttemptRefused::Full`] comes only where the caller's room is 0 as the call answers. A
-/// conditional store of the attempt at place 0 with the snapshot's stamp is allowed to the caller whose file the order
-/// is of.
+/// It makes cells and stores to no object. An order that leaves the book as it is makes no cell and is not refused, and
+/// its attempt names the lists that were fetched. Places below 8 name what they named. Where it answers an attempt, its
+/// lists are named at places 8, 9 and 10, places 11 to 16 are unset, and those from 17 on name what they named; after a
+/// refusal all places from 8 on are unset. [`AttemptRefused::Full`] comes only where the caller's room is 0 as the call
+/// answers. A conditional store of the attempt at place 0 with the snapshot's stamp is allowed to the caller whose file
+/// the order is of.
 pub fn cell_apply<C: Caller<BookUsage>>(
     alloc: Global,
     c: &mut C,
@@ -224,17 +217,10 @@ pub fn cell_apply<C: Caller<BookUsage>>(
         → Builds book_lawful book_allowed (C.sight c.old) (C.sight c.new) (cost
         (length (next_effect (C.sight c.old).usage.limits (state_at at.now book) o.now).fills)
         (length book) - 2) }
-    ensures needless { (book : List Resting)
-        → HasBook (present (C.sight c.old)) (fetched_contents (C.sight c.old) at.now) book
-        → LeavesBook (next_effect (C.sight c.old).usage.limits (state_at at.now book) o.now)
+    ensures needless { LeavesFetched (C.sight c.old) at.now o.now
         → Builds book_lawful book_allowed (C.sight c.old) (C.sight c.new) 0 }
-    ensures answered { (book : List Resting)
-        → HasBook (present (C.sight c.old)) (fetched_contents (C.sight c.old) at.now) book
-        → LeavesBook (next_effect (C.sight c.old).usage.limits (state_at at.now book) o.now)
-        → IsOk result }
-    ensures same { IfOk result (λ a. (book : List Resting)
-        → HasBook (present (C.sight c.old)) (fetched_contents (C.sight c.old) at.now) book
-        → LeavesBook (next_effect (C.sight c.old).usage.limits (state_at at.now book) o.now)
+    ensures answered { LeavesFetched (C.sight c.old) at.now o.now → IsOk result }
+    ensures same { IfOk result (λ a. LeavesFetched (C.sight c.old) at.now o.now
         → names_of (C.sight c.new) a.refs ≡ (fetched_contents (C.sight c.old) at.now).refs) }
     ensures names { (k : ℕ) → k < 8
         → name_at (C.sight c.new).roots k ≡ name_at (C.sight c.old).roots k }

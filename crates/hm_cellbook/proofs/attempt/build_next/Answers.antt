@@ -73,53 +73,53 @@ returns-clause-builds g c = λ book has.
     copied (g.C.Caller.sight c.apply.new.c) e.rests (c.apply.ensures.builds book begins)
 
 pub returns-in_err-outcome-clause-needless : goal.returns-in_err-outcome-clause-needless
-returns-in_err-outcome-clause-needless g c = λ book has leaves.
+returns-in_err-outcome-clause-needless g c = λ h.
     let before = g.C.Caller.sight c.args.c.now in
     let copied = g.C.Caller.sight c.copy_lists.new.c in
     let at = c.args.at.now in
     let e = c.copy_lists.ensures in
-    let begins = begins_copied before at c.requires.fetched book has copied
+    let begins = begins_copied before at c.requires.fetched h.book h.has copied
     (at.stamp + 1) e.rests e.bids e.asks e.ids refl in
-    next_needless before at c.requires.fetched book has before.usage.limits c.args.o.now
+    next_needless before at c.requires.fetched h.book h.has before.usage.limits c.args.o.now
     (at.stamp + 1) refl copied.usage.limits (ap (λ (u : BookUsage). u.limits) e.rests.caller.usage)
-    copied (g.C.Caller.sight c.apply.new.c) e.rests (c.apply.ensures.builds book begins) leaves
+    copied (g.C.Caller.sight c.apply.new.c) e.rests (c.apply.ensures.builds h.book begins) h.leaves
 
 pub returns-clause-needless : goal.returns-clause-needless
-returns-clause-needless g c = λ book has leaves.
+returns-clause-needless g c = λ h.
     let before = g.C.Caller.sight c.args.c.now in
     let copied = g.C.Caller.sight c.copy_lists.new.c in
     let at = c.args.at.now in
     let e = c.copy_lists.ensures in
-    let begins = begins_copied before at c.requires.fetched book has copied
+    let begins = begins_copied before at c.requires.fetched h.book h.has copied
     (at.stamp + 1) e.rests e.bids e.asks e.ids refl in
-    next_needless before at c.requires.fetched book has before.usage.limits c.args.o.now
+    next_needless before at c.requires.fetched h.book h.has before.usage.limits c.args.o.now
     (at.stamp + 1) refl copied.usage.limits (ap (λ (u : BookUsage). u.limits) e.rests.caller.usage)
-    copied (g.C.Caller.sight c.apply.new.c) e.rests (c.apply.ensures.builds book begins) leaves
+    copied (g.C.Caller.sight c.apply.new.c) e.rests (c.apply.ensures.builds h.book begins) h.leaves
 
 pub returns-in_err-outcome-clause-answered : goal.returns-in_err-outcome-clause-answered
-returns-in_err-outcome-clause-answered g c = λ book has leaves.
+returns-in_err-outcome-clause-answered g c = λ h.
     let before = g.C.Caller.sight c.args.c.now in
     let copied = g.C.Caller.sight c.copy_lists.new.c in
     let at = c.args.at.now in
     let e = c.copy_lists.ensures in
-    let begins = begins_copied before at c.requires.fetched book has copied
+    let begins = begins_copied before at c.requires.fetched h.book h.has copied
     (at.stamp + 1) e.rests e.bids e.asks e.ids refl in
-    absurd (false≢true (c.in_err-outcome.ensures.answered book begins
-    (subst LeavesBook (sym (next_is before at c.requires.fetched book has before.usage.limits c.args.o.now
-    (at.stamp + 1) refl copied.usage.limits (ap (λ (u : BookUsage). u.limits) e.rests.caller.usage))) leaves)))
+    absurd (false≢true (c.in_err-outcome.ensures.answered h.book begins
+    (subst LeavesBook (sym (next_is before at c.requires.fetched h.book h.has before.usage.limits c.args.o.now
+    (at.stamp + 1) refl copied.usage.limits (ap (λ (u : BookUsage). u.limits) e.rests.caller.usage))) h.leaves)))
 
 pub returns-clause-same : goal.returns-clause-same
-returns-clause-same g c = λ book has leaves.
+returns-clause-same g c = λ h.
     let before = g.C.Caller.sight c.args.c.now in
     let copied = g.C.Caller.sight c.copy_lists.new.c in
     let at = c.args.at.now in
     let e = c.copy_lists.ensures in
-    let begins = begins_copied before at c.requires.fetched book has copied
+    let begins = begins_copied before at c.requires.fetched h.book h.has copied
     (at.stamp + 1) e.rests e.bids e.asks e.ids refl in
-    let effect = c.in_ok-outcome.ensures.effect book begins in
-    let mine = subst LeavesBook (sym (next_is before at c.requires.fetched book has before.usage.limits
+    let effect = c.in_ok-outcome.ensures.effect h.book begins in
+    let mine = subst LeavesBook (sym (next_is before at c.requires.fetched h.book h.has before.usage.limits
     c.args.o.now (at.stamp + 1) refl copied.usage.limits
-    (ap (λ (u : BookUsage). u.limits) e.rests.caller.usage))) leaves in
+    (ap (λ (u : BookUsage). u.limits) e.rests.caller.usage))) h.leaves in
     let stays = c.in_ok-outcome.ensures.same record {
       no_fill = effect.fills ∙ mine.no_fill;
       no_change = ap changes effect.fate ∙ mine.no_change;

@@ -13,9 +13,9 @@ returns-in-Err-clause-beyond g c =
     λ k le. c.clear_places.ensures.others.above k le ∙ c.build_next.ensures.others.above k (omega arith)
 
 pub returns-in-Err-clause-needless : goal.returns-in-Err-clause-needless
-returns-in-Err-clause-needless g c = λ book has leaves.
+returns-in-Err-clause-needless g c = λ h.
     let tried = g.C.Caller.sight c.build_next.new.c in
     let cleared = g.C.Caller.sight c.clear_places.new.c in
     builds_then book_lawful book_allowed (g.C.Caller.sight c.args.c.now) tried cleared 0 0
-    (c.build_next.ensures.needless book has leaves)
+    (c.build_next.ensures.needless h)
     (builds_rests book_lawful book_allowed tried cleared c.clear_places.ensures.rests)
