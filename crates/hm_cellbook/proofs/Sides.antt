@@ -2,7 +2,7 @@
 use Rattle.std.proofs.Common.{◌≡◌, ℕ, ◌+◌, ◌-◌, ◌<◌, ◌≤◌, ◌==◌, Bool, true, false, List, [], ◌∷◌, ◌++◌, length, map, if◌then◌else◌, ◌||◌, Some, refl, sym, ap, ◌∙◌, subst, inl, inr, arith, length-append}
 use Rattle.std.specs.List.{AllByRecursion, Contains, list_any}
 use Rattle.std.specs.Option.{option_map, is_some}
-use Rattle.std.proofs.lemmas.Bool.{cases_lt, ne_eqb}
+use Rattle.std.proofs.lemmas.Bool.{cases_lt, cond-true, cond-false, ne_eqb}
 use Rattle.std.proofs.lemmas.List.{map-append, append-nil}
 use Rattle.std.proofs.lemmas.List.Elements.{recursion_from_All}
 use Rattle.hm_orders.specs.declared.order.Side.{Side}
@@ -12,13 +12,14 @@ use Rattle.hm_list.specs.declared.key.Pair.{Pair}
 use Rattle.hm_list.specs.Pairs.{AreInOrder, first_of, lookup, insert, delete}
 use Rattle.hm_book.specs.declared.book.Resting.{Resting}
 use Rattle.hm_book.specs.Trading.{opposes, best_opposite, after_fill}
-use Rattle.hm_book.specs.Effect.{has_name, rests}
-use Rattle.hm_book.proofs.Members.{AllByRecursion-weaker}
+use Rattle.hm_book.specs.Effect.{has_name, rests, without}
+use Rattle.hm_book.proofs.Members.{AllByRecursion-weaker, Contains-cons, Contains-first}
 use Rattle.hm_book.proofs.Rising.{Splits, split_at}
 use Rattle.hm_book.proofs.Taking.{after_fill-all, length-after_fill_all}
 use Rattle.hm_book.proofs.Apart.{Apart, HaveOtherNames, other_names_same}
 use Rattle.hm_agreement.specs.Cells.{IsInRange, id_of, in_order, ids_of}
 use Rattle.hm_cellbook.specs.Sides.{opposite, pairs_on, pair_on, IsListable}
+use Rattle.hm_cellbook.specs.Working.{IsNamed}
 use Rattle.hm_cellbook.proofs.Changing.{lookup_inserted}
 use Rattle.hm_cellbook.proofs.Listing.{in_order_is}
 use Rattle.hm_cellbook.proofs.Kept.{kept, listed, listed_without, listed_with, listed_passed, listed_added, listed_few}
@@ -88,6 +89,43 @@ rests_is file id (resting ∷ book) =
     go true rest = refl
     go false rest = rest
 
+-- the load that they have under a name is that of the order of that name
+pub named_is : (file id : ℕ) (book : List Resting) (load : List ℕ)
+    → lookup record { a = file; b = id } (ids_of book) ≡ Some load
+    → (r : Resting) × IsNamed file id book r × (load ≡ (id_of r).load)
+named_is file id [] load h = absurd (cc)
+named_is file id (resting ∷ book) load h =
+    go (has_name file id resting) refl
+    (sym (lookup_inserted (id_of resting) record { a = file; b = id } (ids_of book)) ∙ h)
+    (named_is file id book load)
+  where
+    go : (b : Bool) → has_name file id resting ≡ b
+        → (if b then Some (id_of resting).load else lookup record { a = file; b = id } (ids_of book))
+        ≡ Some load
+        → (lookup record { a = file; b = id } (ids_of book) ≡ Some load
+        → (r : Resting) × IsNamed file id book r × (load ≡ (id_of r).load))
+        → (r : Resting) × IsNamed file id (resting ∷ book) r × (load ≡ (id_of r).load)
+    go true is e rest = (
+      resting,
+      record { there = Contains-first resting book resting refl; of_file = grind (arith, is); has_id = grind (arith, is) },
+      cc,
+    )
+    go false is e rest =
+        let r = rest e in (
+          r.0,
+          record { there = Contains-cons resting book r.0 r.1.there; of_file = r.1.of_file; has_id = r.1.has_id },
+          r.2,
+        )
+
+-- an order is the first of its name where no order before it has that name
+without_at : (one : Resting) (front back : List Resting)
+    → AllByRecursion (λ other. HaveOtherNames other one) front
+    → without one.file one.id (front ++ one ∷ back) ≡ front ++ back
+without_at one [] back h = cond-true (has_name one.file one.id one) _ _ (grind arith)
+without_at one (x ∷ front) back h =
+    cond-false (has_name one.file one.id x) _ _ (grind (arith, h.0))
+    ∙ ap (λ (b : List Resting). x ∷ b) (without_at one front back h.1)
+
 module _ (book : List Resting) (listable : IsListable book) (maker : Resting) (there : Contains book maker)
     (quantity : ℕ) where
   -- the book is split at the maker
@@ -114,6 +152,14 @@ module _ (book : List Resting) (listable : IsListable book) (maker : Resting) (t
       apart_around HaveOtherNames other_names_same split.front maker split.back
       (subst (λ (b : List Resting). Apart HaveOtherNames other_names_same b) split.whole
       (names_apart book listable))
+
+  -- the book without the order of the maker's name is that after such a fill
+  pub without_is : maker.quantity ≤ quantity
+      → without maker.file maker.id book ≡ after_fill maker.root quantity book
+  without_is all =
+      ap (without maker.file maker.id) split.whole
+      ∙ without_at maker split.front split.back other_names.0
+      ∙ sym (without_maker all)
 
   -- the book is one order shorter after a fill that uses up its maker
   pub length_used_up : maker.quantity ≤ quantity

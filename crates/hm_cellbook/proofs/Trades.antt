@@ -37,6 +37,11 @@ pub record Trades (c d : Sight BookUsage) (order : Order) (root made : ℕ) (boo
   pub short : length work ≤ length book
   pub builds : Builds book_lawful book_allowed c d (2 * length fills * (length book + 9))
 
+-- after a fill there are fills
+pub some_fills : (fills : List Fill) (fill : Fill) → fills ++ fill ∷ [] ≡ [] → ⊥
+some_fills [] fill none = cc
+some_fills (x ∷ fills) fill none = cc
+
 -- it begins with no fill
 pub trades_start : (c : Sight BookUsage) (order : Order) (root made : ℕ) (book : List Resting) (resting : ℕ)
     → BeginsOn c root resting book → Trades c c order root made book [] order.quantity resting
@@ -201,6 +206,16 @@ module _ (c d : Sight BookUsage) (order : Order) (root made : ℕ) (book : List 
         ∙ trades_some more_fuel.0 order root (made + 1 + length fills) left t.work maker
         (next_some order left t.work maker some next))
 
+    -- so many fills and one more are of the whole trading
+    pub filled_few : length fills + 1
+        ≤ length (trades (length book) order root (made + 1) order.quantity book).fills
+    filled_few =
+        let more : List Fill = (with_fill
+        (fill_with (made + 1 + length fills) root left maker) rest_of_it).fills in
+        let long : length (trades (length book) order root (made + 1) order.quantity book).fills
+        ≡ length (fills ++ more) = ap (λ (x : Traded). length x.fills) one_more in
+        omega (arith, length-append fills more)
+
     -- the calls so far, and those for this fill, build no more than the whole trading may
     pub filled_builds : (e f : Sight BookUsage) → Builds book_lawful book_allowed d e 0
         → Builds book_lawful book_allowed e f (2 * (length t.work + 9))
@@ -209,10 +224,7 @@ module _ (c d : Sight BookUsage) (order : Order) (root made : ℕ) (book : List 
         * (length book + 9))
     filled_builds e f fetches takes =
         let n = length (trades (length book) order root (made + 1) order.quantity book).fills in
-        let more : List Fill = (with_fill
-        (fill_with (made + 1 + length fills) root left maker) rest_of_it).fills in
-        let long : n ≡ length (fills ++ more) = ap (λ (x : Traded). length x.fills) one_more in
-        let few : length fills + 1 ≤ n = omega (arith, length-append fills more) in
+        let few : length fills + 1 ≤ n = filled_few in
         let short = t.short in
         let wide : 2 * (length fills + 1) * (length book + 9) ≤ 2 * n * (length book + 9) =
         grind (arith, mul-le-mul_right (length book + 9) few) in

@@ -5,9 +5,12 @@ use Rattle.hm_model.specs.declared.object.Contents.{Contents}
 use Rattle.hm_model.specs.declared.root.Snapshot.{Snapshot}
 use Rattle.hm_model.specs.Sight.{Sight, name_at, names_of, present}
 use Rattle.hm_book.specs.declared.book.Resting.{Resting}
-use Rattle.hm_book.specs.Run.{BookState, done_of, state_after}
+use Rattle.hm_book.specs.Run.{BookState, done_of, next_effect, state_after}
+use Rattle.hm_agreement.specs.Agreed.{HasBook}
 use Rattle.hm_agreement.specs.Cells.{board_name, HoldsOrder, ShowsBook}
 use Rattle.hm_cellbook.specs.declared.usage.BookUsage.{BookUsage}
+use Rattle.hm_cellbook.specs.Cost.{LeavesBook}
+use Rattle.hm_cellbook.specs.Fetched.{fetched_contents}
 use Rattle.hm_list.specs.Places.{AreUnset}
 use Rattle.hm_list.specs.declared.key.Refused.{Refused}
 use Rattle.hm_list.specs.declared.key.Refused.TheVariants as refusal
@@ -45,6 +48,12 @@ pub record Applies (c : Sight BookUsage) (at : Snapshot) (order : Order) (book :
       (state_after c.usage.limits (state_at at book) order).book
   pub fills : slice_index attempt.numbers 9
       ≡ (state_after c.usage.limits (state_at at book) order).fills
+
+-- an order leaves the book that was fetched as it is
+pub record LeavesFetched (c : Sight BookUsage) (at : Snapshot) (order : Order) : Type 0 where
+  pub book : List Resting
+  pub has : HasBook (present c) (fetched_contents c at) book
+  pub leaves : LeavesBook (next_effect c.usage.limits (state_at at book) order)
 
 -- an attempt leaves its lists at places 8, 9 and 10 and the board at place 7; the places of walks,
 -- 11 to 16, are unset, and those from 17 on name what they named

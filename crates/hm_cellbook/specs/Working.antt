@@ -1,5 +1,5 @@
 -- The book that an attempt works on: its lists at root places 8, 9 and 10.
-use Rattle.std.specs.Prelude.{◌≡◌, ℕ, ◌<◌, List, length, All}
+use Rattle.std.specs.Prelude.{◌≡◌, ℕ, ◌<◌, List, length, All, Contains}
 use Rattle.hm_orders.specs.declared.order.Side.{Side}
 use Rattle.hm_orders.specs.declared.order.Side.TheVariants.{Buy, Sell, Neither}
 use Rattle.hm_orders.specs.declared.report.Fate.{Fate}
@@ -11,8 +11,9 @@ use Rattle.hm_book.specs.declared.book.Resting.{Resting}
 use Rattle.hm_book.specs.Trading.{Traded}
 use Rattle.hm_book.specs.Effect.{Effect}
 use Rattle.hm_agreement.specs.Lists.{Pair}
-use Rattle.hm_agreement.specs.Cells.{IsInRange, bids_of, asks_of, ids_of}
+use Rattle.hm_agreement.specs.Cells.{IsInRange, bids_of, asks_of, id_of, ids_of}
 use Rattle.hm_cellbook.specs.declared.usage.BookUsage.{BookUsage}
+use Rattle.hm_cellbook.specs.declared.pairs.Spot.{Spot}
 use Rattle.hm_cellbook.specs.Fetched.{book_node}
 use Rattle.hm_cellbook.specs.Sides.{pair_on, IsListable}
 
@@ -70,6 +71,22 @@ pub record HasEffect (c : Sight BookUsage) (effect : Effect) (told : Fate) (made
   pub fate : told ≡ effect.fate
   pub fills : made ≡ effect.fills
   pub resting : count ≡ length effect.book
+
+-- the order of this file with this id rests in the book
+pub record IsNamed (file id : ℕ) (book : List Resting) (resting : Resting) : Type 0 where
+  pub there : Contains book resting
+  pub of_file : resting.file ≡ file
+  pub has_id : resting.id ≡ id
+
+-- a spot is that of a resting order: its side, and its key there
+pub record IsSpotOf (spot : Spot) (resting : Resting) : Type 0 where
+  pub side : spot.side ≡ resting.side
+  pub key : spot.key ≡ (pair_on resting.side resting).key
+
+-- a load among the resting ids is that of a resting order
+pub record IsLoadOf (load : List ℕ) (resting : Resting) : Type 0 where
+  pub range : IsInRange resting
+  pub is : load ≡ (id_of resting).load
 
 -- a pair is that of a resting order on a side
 pub record IsPairOf (side : Side) (pair : Pair) (resting : Resting) : Type 0 where

@@ -1,6 +1,5 @@
 //! An attempt at an order: the next lists are built, and no object is stored to.
-ghost use Rattle.std.specs.Prelude.{◌≡◌, ◌+◌, ◌-◌, ◌<◌, ◌≤◌, [], ◌∷◌, ℕ, List, Some, IsTrue, IfOk, OnErr, Err, length, slice_index};
-ghost use Rattle.hm_orders.specs.declared.order.Kind.TheVariants.{Limit};
+ghost use Rattle.std.specs.Prelude.{◌≡◌, ◌+◌, ◌-◌, ◌<◌, ◌≤◌, [], ◌∷◌, ℕ, List, Some, IfOk, IsOk, OnErr, Err, length, slice_index};
 ghost use Rattle.hm_orders.specs.Orders.{IsWellFormed};
 ghost use Rattle.hm_model.specs.declared.root.Root.{Root};
 ghost use Rattle.hm_model.specs.Sight.{AreSet, Rests, name_at, names_of, present};
@@ -14,7 +13,7 @@ ghost use Rattle.hm_agreement.specs.Agreed.{HasBook};
 ghost use Rattle.hm_agreement.specs.Cells.{HoldsOrder, kind_number};
 ghost use Rattle.hm_cellbook.specs.Cost.{cost};
 ghost use Rattle.hm_cellbook.specs.Fetched.{book_allowed, book_lawful, fetched_contents, WasFetched};
-ghost use Rattle.hm_cellbook.specs.Attempted.{state_at, Applies, LeavesPlaces, TellsOrder};
+ghost use Rattle.hm_cellbook.specs.Attempted.{state_at, Applies, LeavesFetched, LeavesPlaces, TellsOrder};
 
 use crate::outcome::apply;
 use crate::pairs::side_number;
@@ -132,10 +131,10 @@ fn build_next<C: Caller<BookUsage>>(
     c: &mut C,
     at: &Snapshot,
     o: &Order,
+    admitted: bool,
 ) -> Result<Attempt, AttemptRefused>
     requires fetched { WasFetched (C.sight c.old) at.now }
-    requires admitted { IsTrue (admits (C.sight c.old).usage.limits o.now) }
-    requires limit { o.now.kind ≡ Limit }
+    requires admits { admitted ≡ admits (C.sight c.old).usage.limits o.now }
     requires well_formed { IsWellFormed o.now }
     requires stamp { at.now.stamp < 18446744073709551615 }
     ensures shown { (book : List Resting)
@@ -154,13 +153,18 @@ fn build_next<C: Caller<BookUsage>>(
         → Builds book_lawful book_allowed (C.sight c.old) (C.sight c.new) (cost
         (length (next_effect (C.sight c.old).usage.limits (state_at at.now book) o.now).fills)
         (length book) - 2) }
+    ensures needless { LeavesFetched (C.sight c.old) at.now o.now
+        → Builds book_lawful book_allowed (C.sight c.old) (C.sight c.new) 0 }
+    ensures answered { LeavesFetched (C.sight c.old) at.now o.now → IsOk result }
+    ensures same { IfOk result (λ a. LeavesFetched (C.sight c.old) at.now o.now
+        → names_of (C.sight c.new) a.refs ≡ (fetched_contents (C.sight c.old) at.now).refs) }
     ensures others { SameOutside (C.sight c.old) (C.sight c.new) 8 17 }
     ensures full { result ≡ Err AttemptRefused.Full → (C.sight c.new).room ≡ 0 }
 {
     copy_lists(c);
     let root = at.stamp + 1;
     let made = at.numbers[9];
-    let outcome = apply(alloc, c, o, root, made, at.numbers[8])?;
+    let outcome = apply(alloc, c, o, admitted, root, made, at.numbers[8])?;
     let fills = made + outcome.fills.len() as u64;
     let numbers = numbers_of(o, root, outcome.resting, fills);
     Ok(Attempt {
@@ -176,14 +180,16 @@ fn build_next<C: Caller<BookUsage>>(
     })
 }
 
-/// Builds what an order makes of the book that the fetch of root place 0, which names the common object, into places 4
-/// to 7 answered. There was one: what was fetched has just one book.
+/// Builds what an order of any kind makes of the book that the fetch of root place 0, which names the common object,
+/// into places 4 to 7 answered. There was one: what was fetched has just one book. The caller tells whether the limits
+/// admit the order; one that they do not admit is denied.
 ///
-/// It makes cells and stores to no object. Places below 8 name what they named. Where it answers an attempt, its lists
-/// are named at places 8, 9 and 10, places 11 to 16 are unset, and those from 17 on name what they named; after a refusal
-/// all places from 8 on are unset. [`AttemptRefused::Full`] comes only where the caller's room is 0 as the call answers.
-/// A conditional store of the attempt at place 0 with the snapshot's stamp is allowed to the caller whose file the order
-/// is of.
+/// It makes cells and stores to no object. An order that leaves the book as it is makes no cell and is not refused, and
+/// its attempt names the lists that were fetched. Places below 8 name what they named. Where it answers an attempt, its
+/// lists are named at places 8, 9 and 10, places 11 to 16 are unset, and those from 17 on name what they named; after a
+/// refusal all places from 8 on are unset. [`AttemptRefused::Full`] comes only where the caller's room is 0 as the call
+/// answers. A conditional store of the attempt at place 0 with the snapshot's stamp is allowed to the caller whose file
+/// the order is of.
 pub fn cell_apply<C: Caller<BookUsage>>(
     alloc: Global,
     c: &mut C,
@@ -193,8 +199,6 @@ pub fn cell_apply<C: Caller<BookUsage>>(
 ) -> Result<Attempt, AttemptRefused>
     requires fetched { WasFetched (C.sight c.old) at.now }
     requires admits { admitted ≡ admits (C.sight c.old).usage.limits o.now }
-    requires admitted { IsTrue admitted }
-    requires limit { o.now.kind ≡ Limit }
     requires well_formed { IsWellFormed o.now }
     requires stamp { at.now.stamp < 18446744073709551615 }
     ensures shown { (book : List Resting)
@@ -213,6 +217,11 @@ pub fn cell_apply<C: Caller<BookUsage>>(
         → Builds book_lawful book_allowed (C.sight c.old) (C.sight c.new) (cost
         (length (next_effect (C.sight c.old).usage.limits (state_at at.now book) o.now).fills)
         (length book) - 2) }
+    ensures needless { LeavesFetched (C.sight c.old) at.now o.now
+        → Builds book_lawful book_allowed (C.sight c.old) (C.sight c.new) 0 }
+    ensures answered { LeavesFetched (C.sight c.old) at.now o.now → IsOk result }
+    ensures same { IfOk result (λ a. LeavesFetched (C.sight c.old) at.now o.now
+        → names_of (C.sight c.new) a.refs ≡ (fetched_contents (C.sight c.old) at.now).refs) }
     ensures names { (k : ℕ) → k < 8
         → name_at (C.sight c.new).roots k ≡ name_at (C.sight c.old).roots k }
     ensures beyond { (k : ℕ) → 256 ≤ k
@@ -220,8 +229,7 @@ pub fn cell_apply<C: Caller<BookUsage>>(
     ensures unset { OnErr result (AreUnset (C.sight c.new) 8 256) }
     ensures full { result ≡ Err AttemptRefused.Full → (C.sight c.new).room ≡ 0 }
 {
-    prove!(admitted);
-    match build_next(alloc, c, at, o) {
+    match build_next(alloc, c, at, o, admitted) {
         Ok(attempt) => Ok(attempt),
         Err(refused) => {
             clear_places(c, Root(8), Root(256));

@@ -1,18 +1,21 @@
 //! Trading with the orders of the opposite side, best first.
-ghost use Rattle.std.specs.Prelude.{◌≡◌, ◌+◌, ◌*◌, ◌<◌, ◌≤◌, nat_le, if◌then◌else◌, ℕ, List, Err, IfOk, OnOk, length, option_and_then, Contains};
+ghost use Rattle.std.specs.Prelude.{◌≡◌, ◌+◌, ◌*◌, ◌<◌, ◌≤◌, [], nat_le, if◌then◌else◌, ℕ, List, Err, IfOk, IsOk, OnOk, length, option_and_then, Contains};
 ghost use Rattle.hm_orders.specs.Orders.{IsTradingSide};
 ghost use Rattle.hm_model.specs.Building.{Builds};
 ghost use Rattle.hm_list.specs.Places.{AreUnset, SameOutside};
 ghost use Rattle.hm_book.specs.declared.book.Resting.{Resting};
 ghost use Rattle.hm_book.specs.Trading.{after_fill, best_opposite, if_crossed, trades};
+ghost use Rattle.hm_agreement.specs.Cells.{id_of};
 ghost use Rattle.hm_cellbook.specs.Fetched.{book_allowed, book_lawful};
-ghost use Rattle.hm_cellbook.specs.Working.{Begins, BeginsOn, HasTraded, IsWorking, WorksOn};
+ghost use Rattle.hm_cellbook.specs.Working.{Begins, BeginsOn, HasTraded, IsSpotOf, IsWorking, WorksOn};
 
 use crate::attempt::AttemptRefused;
-use crate::pairs::{TOP, id_key, ids_place, key_on, opposite, pair_on, place_of, resting_in};
+use crate::pairs::{
+    Spot, TOP, id_key, ids_place, opposite, pair_on, place_of, resting_in, spot_of,
+};
 use crate::usage::BookUsage;
 use hm_book::{Resting, crosses};
-use hm_list::{first, put, remove};
+use hm_list::{Key, first, put, remove};
 use hm_model::Caller;
 use hm_orders::{Fill, Order};
 use std::alloc::Global;
@@ -47,7 +50,7 @@ fn next_maker<C: Caller<BookUsage>>(c: &mut C, order: &Order) -> Option<Resting>
     ensures works { (book : List Resting) → WorksOn (C.sight c.old) book
         → WorksOn (C.sight c.new) book }
     ensures builds { Builds book_lawful book_allowed (C.sight c.old) (C.sight c.new) 0 }
-    ensures others { SameOutside (C.sight c.old) (C.sight c.new) 8 17 }
+    ensures others { SameOutside (C.sight c.old) (C.sight c.new) 11 17 }
     ensures unset { AreUnset (C.sight c.new) 11 17 }
 {
     let side = opposite(order.side);
@@ -81,25 +84,27 @@ fn put_back<C: Caller<BookUsage>>(
     Ok(())
 }
 
-/// Takes the resting order out.
-fn take_out<C: Caller<BookUsage>>(
+/// Takes the order with this spot, and this key among the resting ids, out of the book.
+pub(crate) fn take_out<C: Caller<BookUsage>>(
     alloc: Global,
     c: &mut C,
-    maker: &Resting,
+    spot: Spot,
+    id: Key,
 ) -> Result<(), AttemptRefused>
     requires working { IsWorking (C.sight c.old) }
-    requires trading { IsTradingSide maker.now.side }
-    ensures taken { (book : List Resting) (quantity : ℕ) → WorksOn (C.sight c.old) book
-        → Contains book maker.now → maker.now.quantity ≤ quantity
-        → OnOk result (WorksOn (C.sight c.new) (after_fill maker.now.root quantity book)) }
+    requires trading { IsTradingSide spot.side }
+    ensures taken { (book : List Resting) (maker : Resting) (quantity : ℕ)
+        → WorksOn (C.sight c.old) book → Contains book maker → IsSpotOf spot maker
+        → id ≡ (id_of maker).key → maker.quantity ≤ quantity
+        → OnOk result (WorksOn (C.sight c.new) (after_fill maker.root quantity book)) }
     ensures builds { (book : List Resting) → WorksOn (C.sight c.old) book
         → Builds book_lawful book_allowed (C.sight c.old) (C.sight c.new) (2 * (length book + 9)) }
     ensures others { SameOutside (C.sight c.old) (C.sight c.new) 8 17 }
     ensures unset { AreUnset (C.sight c.new) 11 17 }
     ensures full { result ≡ Err AttemptRefused.Full → (C.sight c.new).room ≡ 0 }
 {
-    remove(alloc, c, place_of(maker.side), key_on(maker), TOP)?;
-    remove(alloc, c, ids_place(), id_key(maker.file, maker.id), TOP)?;
+    remove(alloc, c, place_of(spot.side), spot.key, TOP)?;
+    remove(alloc, c, ids_place(), id, TOP)?;
     Ok(())
 }
 
@@ -123,7 +128,7 @@ fn take_from<C: Caller<BookUsage>>(
     ensures full { result ≡ Err AttemptRefused.Full → (C.sight c.new).room ≡ 0 }
 {
     if maker.quantity <= quantity {
-        take_out(alloc, c, maker)?;
+        take_out(alloc, c, spot_of(maker), id_key(maker.file, maker.id))?;
         return Ok(1);
     }
     put_back(alloc, c, maker, quantity)?;
@@ -152,6 +157,11 @@ pub(crate) fn trade<C: Caller<BookUsage>>(
         → Builds book_lawful book_allowed (C.sight c.old) (C.sight c.new) (2 * length
         (trades (length book) order.now root (made + 1) order.now.quantity book).fills
         * (length book + 9)) }
+    ensures answered { (book : List Resting) → BeginsOn (C.sight c.old) root resting book
+        → (trades (length book) order.now root (made + 1) order.now.quantity book).fills ≡ []
+        → IsOk result }
+    ensures same { IfOk result (λ t. t.fills.items ≡ []
+        → SameOutside (C.sight c.old) (C.sight c.new) 11 17) }
     ensures others { SameOutside (C.sight c.old) (C.sight c.new) 8 17 }
     ensures unset { AreUnset (C.sight c.new) 11 17 }
     ensures full { result ≡ Err AttemptRefused.Full → (C.sight c.new).room ≡ 0 }

@@ -1,11 +1,11 @@
 //! Applying an order to a book in cells of a shared store.
 //!
 //! The common object of the store names three sorted lists of cells: the bids, the asks and the resting ids. Its
-//! numbers hold the last order and its root number, and the numbers of resting orders and of fills. [`cell_apply`] takes
-//! what a fetch of root place 0, the common object, answered. It builds the lists that the next order leaves beside the
-//! old ones, so that whoever still names those reads what they held, and stores to no object. The book is changed where
-//! its caller stores the [`Attempt`] into the common object by one conditional store, which fails where the book has
-//! changed since the fetch. [`BookUsage`] is what the callers of the store agree to.
+//! numbers hold the last order and its root number, and the numbers of resting orders and of fills. [`cell_apply`]
+//! takes what a fetch of root place 0, the common object, answered, and an order of any kind. It builds the lists that
+//! the order leaves beside the old ones, so that whoever still names those reads what they held, and stores to no
+//! object. The book is changed where its caller stores the [`Attempt`] into the common object by one conditional store,
+//! which fails where the book has changed since the fetch. [`BookUsage`] is what the callers of the store agree to.
 //!
 //! | Root places | Name |
 //! |---|---|

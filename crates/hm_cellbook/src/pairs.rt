@@ -1,10 +1,11 @@
 //! The two sides of a book: at which place each has its list, and which pairs.
 ghost use Rattle.std.specs.Prelude.{◌≡◌};
+ghost use Rattle.hm_orders.specs.declared.order.Side.{Side};
 ghost use Rattle.hm_list.specs.declared.key.Pair.{Pair};
 ghost use Rattle.hm_book.specs.declared.book.Resting.{Resting};
 ghost use Rattle.hm_agreement.specs.Cells.{id_of, side_number};
 ghost use Rattle.hm_cellbook.specs.Sides.{opposite, pair_on};
-ghost use Rattle.hm_cellbook.specs.Working.{ids_place, place_of, IsPairOf};
+ghost use Rattle.hm_cellbook.specs.Working.{ids_place, place_of, IsLoadOf, IsPairOf, IsSpotOf};
 
 use hm_book::Resting;
 use hm_list::{Key, Pair};
@@ -13,6 +14,9 @@ use hm_orders::Side;
 
 /// The first of the places that walks take as their own.
 pub(crate) const TOP: Root = Root(11);
+
+/// The first place behind them.
+pub(crate) const END: Root = Root(17);
 
 /// The side with which a side trades.
 pub(crate) fn opposite(side: Side) -> Side
@@ -42,18 +46,37 @@ pub(crate) fn ids_place() -> Root
     Root(10)
 }
 
-/// The key of a resting order on its side.
-pub(crate) fn key_on(resting: &Resting) -> Key
-    ensures { result ≡ (pair_on resting.now.side resting.now).key }
+/// Where an order rests: its side, and its key there.
+#[derive(Clone, Copy)]
+pub(crate) struct Spot {
+    pub side: Side,
+    pub key: Key,
+}
+
+/// The spot of a resting order with this price and this root number on this side.
+fn spot_at(side: Side, price: u32, root: u64) -> Spot
+    ensures side { result.side ≡ side }
+    ensures key { (r : Resting) → r.price ≡ price → r.root ≡ root
+        → result.key ≡ (pair_on side r).key }
 {
-    let price = match resting.side {
-        Side::Buy => u32::MAX - resting.price,
-        Side::Sell | Side::Neither => resting.price,
+    let first = match side {
+        Side::Buy => u32::MAX - price,
+        Side::Sell | Side::Neither => price,
     };
-    Key {
-        a: u64::from(price),
-        b: resting.root,
+    Spot {
+        side,
+        key: Key {
+            a: u64::from(first),
+            b: root,
+        },
     }
+}
+
+/// The spot of a resting order.
+pub(crate) fn spot_of(resting: &Resting) -> Spot
+    ensures { IsSpotOf result resting.now }
+{
+    spot_at(resting.side, resting.price, resting.root)
 }
 
 /// The pair of a resting order on its side.
@@ -61,7 +84,7 @@ pub(crate) fn pair_on(resting: &Resting) -> Pair
     ensures { result ≡ pair_on resting.now.side resting.now }
 {
     Pair {
-        key: key_on(resting),
+        key: spot_of(resting).key,
         load: [
             u64::from(resting.price),
             u64::from(resting.file),
@@ -81,6 +104,17 @@ pub(crate) fn side_number(side: Side) -> u64
         Side::Neither => 0,
         Side::Buy => 1,
         Side::Sell => 2,
+    }
+}
+
+/// The side that has this number in cells.
+fn side_of(number: u64) -> Side
+    ensures { (side : Side) → number ≡ side_number side → result ≡ side }
+{
+    match number {
+        1 => Side::Buy,
+        2 => Side::Sell,
+        _ => Side::Neither,
     }
 }
 
@@ -109,6 +143,15 @@ pub(crate) fn id_of(resting: &Resting) -> Pair
             0,
         ],
     }
+}
+
+/// The spot of the resting order that a load among the resting ids tells of.
+pub(crate) fn spot_in(load: [u64; 6]) -> Spot
+    requires { (r : Resting) × IsLoadOf load r }
+    ensures { (r : Resting) → IsLoadOf load r → IsSpotOf result r }
+{
+    let [side, price, root, _, _, _] = load;
+    spot_at(side_of(side), price as u32, root)
 }
 
 /// The resting order that a pair of its side shows.

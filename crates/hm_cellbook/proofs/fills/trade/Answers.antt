@@ -3,9 +3,9 @@ use Rattle.hm_orders.specs.declared.report.Fill.{Fill}
 use Rattle.hm_orders.specs.Orders.{IsTradingSide}
 use Rattle.hm_cellbook.proofs.Sides.{opposite_trades}
 use Rattle.hm_cellbook.proofs.Makers.{maker_is, best_in_book}
-use Rattle.hm_cellbook.proofs.Trades.{Trades, fill_is, trades_start_at, trades_end, out_few, less_left, trades_on, fetched_builds, filled_builds, some_rests, maker_there}
+use Rattle.hm_cellbook.proofs.Trades.{Trades, fill_is, trades_start_at, trades_end, out_few, less_left, trades_on, fetched_builds, filled_builds, some_rests, some_fills, filled_few, maker_there}
 use Rattle.hm_model.proofs.BuildingFacts.{builds_none}
-use Rattle.hm_list.proofs.PlaceFacts.{outside_none, outside_then}
+use Rattle.hm_list.proofs.PlaceFacts.{outside_none, outside_then, outside_wider}
 use Rattle.hm_cellbook.specs.Fetched.{book_allowed, book_lawful}
 use Rattle.hm_cellbook.proofs.fills.trade.Goals as goal
 use Rattle.hm_cellbook.proofs.fills.trade.Goals.{else-loop-left-test, then-loop-left-test+in_default}
@@ -40,6 +40,7 @@ loop-left-init g c =
     let before = g.C.Caller.sight c.args.c.now in record {
       trades = λ book h. trades_start_at before c.args.order.now c.args.root c.args.made book c.args.resting
           c.new-fills.result.items c.new-fills.ensures.items h;
+      same = λ none. outside_none before 11 17;
       others = outside_none before 8 17;
       unset = c.requires.unset;
     }
@@ -66,8 +67,11 @@ loop-left-preserved g c =
           c.min-quantity.result c.in_ok-remaining.field-0
           c.min-quantity.ensures fill c.next_maker.ensures.builds (c.take_from.ensures.builds t.work works)
           (c.in_ok-remaining.ensures.taken t.work works there) c.in_ok-remaining.ensures.out);
+      same = λ none. absurd (some_fills c.loop-left.fills.items _ (sym c.in_ok-push.ensures.items ∙ none));
       others = outside_then before now taken 8 17 c.loop-left.invariant.others
-          (outside_then now looked taken 8 17 c.next_maker.ensures.others c.take_from.ensures.others);
+          (outside_then now looked taken 8 17
+          (outside_wider now looked 11 17 8 17 (omega arith) (omega arith) c.next_maker.ensures.others)
+          c.take_from.ensures.others);
       unset = c.take_from.ensures.unset;
     }
 
@@ -108,3 +112,30 @@ returns-clause-builds g c = λ book h.
           (fetched_builds _ _ _ _ _ _ _ _ _ t
           (g.C.Caller.sight w.next_maker.new.c) w.next_maker.ensures.builds)
     ]
+
+pub returns-clause-same : goal.returns-clause-same
+returns-clause-same g c = λ none.
+    let before = g.C.Caller.sight c.args.c.now in
+    let now = g.C.Caller.sight c.loop-left.c in
+    let same = c.loop-left.invariant.same none in
+    elim c.loop-left-test.branch [
+      | else-loop-left-test w ↦ rw w.c-is same
+      | then-loop-left-test+in_default w ↦ rw w.c-is
+          (outside_then before now (g.C.Caller.sight w.next_maker.new.c) 11 17 same w.next_maker.ensures.others)
+    ]
+
+pub returns-in_err-push-clause-answered : goal.returns-in_err-push-clause-answered
+returns-in_err-push-clause-answered g c = λ book h none.
+    let t = c.loop-left.invariant.trades book h in
+    let next = sym (c.in-Some.ensures.maker t.work t.works) in
+    let few = filled_few _ _ _ _ _ _ _ _ _ t c.in-Some.maker c.loop-left-test.true next in
+    let short = ap (λ (l : List Fill). length l) none in
+    absurd (omega arith)
+
+pub returns-in_err-remaining-clause-answered : goal.returns-in_err-remaining-clause-answered
+returns-in_err-remaining-clause-answered g c = λ book h none.
+    let t = c.loop-left.invariant.trades book h in
+    let next = sym (c.in-Some.ensures.maker t.work t.works) in
+    let few = filled_few _ _ _ _ _ _ _ _ _ t c.in-Some.maker c.loop-left-test.true next in
+    let short = ap (λ (l : List Fill). length l) none in
+    absurd (omega arith)

@@ -1,4 +1,4 @@
-use Rattle.std.proofs.Common.{List}
+use Rattle.std.proofs.Common.{◌≡◌, List, []}
 use Rattle.hm_list.specs.Places.{AreUnset, SameOutside}
 use Rattle.hm_book.specs.declared.book.Resting.{Resting}
 use Rattle.hm_cellbook.specs.Working.{BeginsOn}
@@ -11,6 +11,7 @@ invariant-loop-left g l =
     let d = g.C.Caller.sight l.c in record {
       trades : (book : List Resting) → BeginsOn c l.root l.resting book
           → Trades c d l.order l.root l.made book l.fills.items l.left l.remaining;
+      same : l.fills.items ≡ [] → SameOutside c d 11 17;
       others : SameOutside c d 8 17;
       unset : AreUnset d 11 17;
     }
