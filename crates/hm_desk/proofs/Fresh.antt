@@ -1,11 +1,7 @@
 -- The caller of a fresh heap keeps the empty book, and has come nowhere with its orders.
 use Rattle.std.proofs.Common.{◌≡◌, ◌==◌, ◌+◌, ◌<◌, List, [], ◌∷◌, All, Some, None, rules, inl, refl, sym, ap, ◌∙◌, subst, arith, replicate, IsTrue}
-use Rattle.std.proofs.lemmas.Bool.Decides.{nat_tests}
 use Rattle.std.proofs.lemmas.List.Elements.{All-cons, All-filter, All-nil}
 use Rattle.hm_orders.specs.declared.order.Order.{Order}
-use Rattle.hm_orders.specs.declared.order.Kind.{Kind}
-use Rattle.hm_orders.specs.declared.order.Kind.TheVariants.{Limit, Immediate, Market, Cancel}
-use Rattle.hm_orders.specs.Orders.{HasFieldsOf}
 use Rattle.hm_orders.specs.Interleaving.{dones_part}
 use Rattle.hm_model.specs.declared.object.Name.{Name}
 use Rattle.hm_model.specs.declared.object.Start.{Start}
@@ -17,7 +13,6 @@ use Rattle.hm_model.specs.Building.{IsBuilding}
 use Rattle.hm_model.specs.Sight.{Sight, IsFresh}
 use Rattle.hm_model.proofs.SightFacts.{has_history_fresh}
 use Rattle.hm_book.specs.declared.limits.Limits.{Limits}
-use Rattle.hm_book.specs.Limits.{admits_kind, no_limits}
 use Rattle.hm_book.specs.Run.{dones_of, empty_state}
 use Rattle.hm_agreement.specs.Cells.{board_name}
 use Rattle.hm_agreement.specs.Spelled.{IsBookStart, spelled}
@@ -25,20 +20,9 @@ use Rattle.hm_agreement.specs.Told.{last_told}
 use Rattle.hm_agreement.proofs.BookStart.{common_is, opening_lawful, spelled_opening, start_is}
 use Rattle.hm_cellbook.specs.declared.usage.BookUsage.{BookUsage}
 use Rattle.hm_cellbook.specs.Fetched.{book_allowed, book_lawful}
-use Rattle.hm_desk.specs.Desk.{AdmitAll, KeepsBook}
+use Rattle.hm_desk.specs.Desk.{KeepsBook}
 use Rattle.hm_desk.specs.Progress.{HasCome}
 use Rattle.hm_desk.proofs.Quiet.{spells_nothing, tells_nothing}
-
--- no limits admit every order that a row can give
-admit_kind : (kind : Kind) (order : Order) → HasFieldsOf kind order.side order.price order.quantity
-    → IsTrue (admits_kind kind no_limits order)
-admit_kind Limit order h = grind (arith, nat_tests)
-admit_kind Immediate order h = grind (arith, nat_tests)
-admit_kind Market order h = grind (arith, nat_tests)
-admit_kind Cancel order h = grind (arith, nat_tests)
-
-pub none_admit : AdmitAll no_limits
-none_admit = λ order h. admit_kind order.kind order h.fields
 
 -- a start with an empty book has its sizes
 sized_start : (start : Start) → IsBookStart start → IsSizedStart start

@@ -29,7 +29,7 @@ use Rattle.hm_cellbook.specs.Fetched.{book_allowed, book_lawful}
 use Rattle.hm_desk.specs.declared.halt.Halt.{Halt}
 use Rattle.hm_desk.specs.declared.halt.Halt.TheVariants as halt
 use Rattle.hm_desk.specs.Stalling.{IfFull, WasFull}
-use Rattle.hm_desk.specs.Desk.{AdmitAll, AreOwn}
+use Rattle.hm_desk.specs.Desk.{AreOwn}
 use Rattle.hm_desk.specs.Working.{GoesOn, GoesQuietly, IsAtDesk, book_stamp, stamp_in}
 
 -- a create or a fetch spells no order
@@ -122,7 +122,6 @@ pub desk_goes : (c d : Sight BookUsage) (own : List Entry) → IsAtDesk c → Go
     → SameOutside c d 4 17 → IsAtDesk d
 desk_goes c d own h goes same = record {
   start = subst IsBookStart (sym goes.caller.start) h.start;
-  admits = subst (λ (u : BookUsage). AdmitAll u.limits) (sym goes.caller.usage) h.admits;
   number = subst (λ (q : ℕ). q < 8) (sym goes.caller.number) h.number;
   common = same.below 0 (omega arith) ∙ h.common;
   low = λ k least most. same.below k most ∙ h.low k least most;
@@ -137,7 +136,6 @@ own_goes c d orders same h = record {
   rows = subst (λ (q : ℕ). AreRowsOf (q + 1) orders) (sym same.number) h.rows;
   few = subst (λ (q : ℕ). length orders ≤ slice_index d.usage.lengths q) (sym same.number)
       (subst (λ (u : BookUsage). length orders ≤ slice_index u.lengths c.number) (sym same.usage) h.few);
-  limits = h.limits;
 }
 
 -- the stamp of the common object never falls

@@ -1,3 +1,4 @@
+pub mod Admission
 pub mod Desk
 pub mod Progress
 pub mod Stalling

@@ -23,13 +23,12 @@ use Rattle.hm_model.specs.declared.root.StoreIfRefused.TheVariants as store_refu
 use Rattle.hm_desk.specs.declared.applying.Tried.{Tried}
 use Rattle.hm_desk.specs.declared.applying.Tried.TheVariants as tried
 use Rattle.hm_desk.specs.declared.progress.Progress.{Progress}
-use Rattle.hm_desk.specs.Desk.{AdmitAll, AreOwn}
+use Rattle.hm_desk.specs.Desk.{AreOwn}
 use Rattle.hm_desk.specs.Progress.{HasCome}
 
 -- a caller is at its desk where it keeps a book, but for what places 4 to 16 name
 pub record IsAtDesk (c : Sight BookUsage) : Type 0 where
   pub start : IsBookStart c.start
-  pub admits : AdmitAll c.usage.limits
   pub number : c.number < 8
   pub common : name_at c.roots 0 ≡ Some book_name
   pub low : AreUnset c 1 4

@@ -1,8 +1,8 @@
 //! How a caller applies its next order.
 ghost use Rattle.std.specs.Prelude.{◌≡◌, ◌≢◌, ◌+◌, ◌<◌, ◌≤◌, Some, IfSome, IfOk, OnOk, OnErr, Err, IfErr, length, slice_get};
-ghost use Rattle.hm_orders.specs.declared.order.Kind.TheVariants.{Limit};
 ghost use Rattle.hm_orders.specs.Orders.{IsWellFormed};
 ghost use Rattle.hm_model.specs.Sight.{name_at};
+ghost use Rattle.hm_book.specs.Limits.{admits};
 ghost use Rattle.hm_agreement.specs.Cells.{board_name};
 ghost use Rattle.hm_cellbook.specs.Fetched.{WasFetched};
 ghost use Rattle.hm_desk.specs.Stalling.{IfFull, IsUsedUp, WasFull};
@@ -75,17 +75,18 @@ fn fetch_book<C: Worker<BookUsage>>(c: &mut C) -> Snapshot
     c.fetch(COMMON, HAND)
 }
 
-/// Builds what an order makes of the book that was fetched.
+/// Builds what an order, which is admitted or not, makes of the book that was fetched.
 fn build<C: Worker<BookUsage>>(
     alloc: Global,
     c: &mut C,
     at: &Snapshot,
     order: &Order,
+    admitted: bool,
 ) -> Result<Attempt, AttemptRefused>
     requires desk { IsAtDesk (C.sight c.old) }
     requires fetched { WasFetched (C.sight c.old) at.now }
     requires stamp { at.now.stamp < u64.MAX }
-    requires limit { order.now.kind ≡ Limit }
+    requires admits { admitted ≡ admits (C.sight c.old).usage.limits order.now }
     requires well_formed { IsWellFormed order.now }
     requires file { order.now.file ≡ (C.sight c.old).number + 1 }
     ensures desk { IsAtDesk (C.sight c.new) }
@@ -96,7 +97,7 @@ fn build<C: Worker<BookUsage>>(
     ensures tends { (C.sight c.new).tends ≡ (C.sight c.old).tends }
     ensures takes { TakesCost (C.sight c.old) (C.sight c.new) at.now order.now }
 {
-    cell_apply(alloc, c, at, order, true)
+    cell_apply(alloc, c, at, order, admitted)
 }
 
 /// Stores an attempt at the next order, and takes its memory before. Where it was not stored, nothing is noted of it.
@@ -147,16 +148,19 @@ fn store<C: Worker<BookUsage>>(
     }
 }
 
-/// Attempts the next order at the book as it is.
+/// Attempts the next order, which is admitted or not, at the book as it is.
 fn attempt<C: Worker<BookUsage>>(
     alloc: Global,
     c: &mut C,
     orders: &[Order],
     so_far: &mut Progress,
+    admitted: bool,
 ) -> Tried
     requires work { IsAtWork (C.sight c.old) orders.now so_far.old }
     requires more { so_far.old.next < length orders.now }
     requires settled { so_far.old.told ≡ so_far.old.next }
+    requires admits { IfSome (slice_get orders.now so_far.old.next)
+        (λ order. admitted ≡ admits (C.sight c.old).usage.limits order) }
     ensures work { IsAtWork (C.sight c.new) orders.now so_far.new }
     ensures goes { GoesOn (C.sight c.old) (C.sight c.new) }
     ensures next { result ≡ Tried.Applied → so_far.new.next ≡ so_far.old.next + 1 }
@@ -173,22 +177,25 @@ fn attempt<C: Worker<BookUsage>>(
 {
     let at = fetch_book(c);
     let order = &orders[so_far.next as usize];
-    match build(alloc, c, &at, order) {
+    match build(alloc, c, &at, order, admitted) {
         Ok(attempt) => store(c, orders, so_far, at.stamp, attempt),
         Err(refused) => Tried::from(refused),
     }
 }
 
-/// Applies the next order.
+/// Applies the next order, which is admitted or not.
 pub(crate) fn apply<C: Worker<BookUsage>>(
     alloc: Global,
     c: &mut C,
     orders: &[Order],
     so_far: &mut Progress,
+    admitted: bool,
 ) -> Result<(), Halt>
     requires work { IsAtWork (C.sight c.old) orders.now so_far.old }
     requires more { so_far.old.next < length orders.now }
     requires settled { so_far.old.told ≡ so_far.old.next }
+    requires admits { IfSome (slice_get orders.now so_far.old.next)
+        (λ order. admitted ≡ admits (C.sight c.old).usage.limits order) }
     ensures work { IsAtWork (C.sight c.new) orders.now so_far.new }
     ensures goes { GoesOn (C.sight c.old) (C.sight c.new) }
     ensures next { OnOk result (so_far.new.next ≡ so_far.old.next + 1) }
@@ -203,7 +210,7 @@ pub(crate) fn apply<C: Worker<BookUsage>>(
 {
     let mut tended = false;
     loop {
-        match attempt(alloc, c, orders, so_far) {
+        match attempt(alloc, c, orders, so_far, admitted) {
             Tried::Applied => return Ok(()),
             Tried::Changed => {}
             Tried::Full => meet_full(c, &mut tended)?,

@@ -3,12 +3,13 @@ ghost use Rattle.std.specs.Prelude.{◌≡◌, ◌+◌, ◌<◌, ◌≤◌, leng
 ghost use Rattle.hm_model.specs.declared.entry.Entry.{Entry};
 ghost use Rattle.hm_model.specs.Sight.{Goes};
 ghost use Rattle.hm_cellbook.specs.Fetched.{book_allowed, book_lawful};
-ghost use Rattle.hm_desk.specs.Desk.{AdmitAll, AreOwn, KeepsBook};
+ghost use Rattle.hm_desk.specs.Desk.{AreOwn, KeepsBook};
 ghost use Rattle.hm_desk.specs.Progress.{HasCome};
 ghost use Rattle.hm_desk.specs.Stalling.{IfFull, IfStalled, IsUsedUp, WasFull};
 ghost use Rattle.hm_desk.specs.Hindered.{IsHindered};
 ghost use Rattle.hm_desk.specs.Working.{GoesOn, IsAtWork};
 
+use crate::admission::Admission;
 use crate::applying::apply;
 use crate::gate::Gate;
 use crate::halt::Halt;
@@ -35,30 +36,30 @@ pub enum Worked {
     Memory,
 }
 
-/// The limits under which callers apply orders.
-#[derive(Debug, Drop)]
-pub struct Desk {
+/// The limits under which callers apply orders, and what tells of each order whether they admit it.
+#[derive(Drop)]
+pub struct Desk<F: Admission> {
     limits: Limits,
+    admit: F,
 }
 
-impl Model for Desk {
+impl<F: Admission> Model for Desk<F> {
     ghost use Rattle.hm_book.specs.declared.limits.Limits.{Limits};
-    ghost use Rattle.hm_desk.specs.Desk.{AdmitAll};
 
     ghost Value = { Limits };
 
     ghost view = { λ d. d.limits };
 
-    ghost invariant = { λ d. AdmitAll d.limits };
+    ghost invariant = { λ d. F.tells d.limits d.admit };
 }
 
-impl Desk {
-    /// A desk under limits that admit every order that a row can give.
-    pub fn new(limits: Limits) -> Desk
-        requires { AdmitAll limits }
+impl<F: Admission> Desk<F> {
+    /// A desk under limits, with a closure that may be called on every order and answers whether they admit it.
+    pub fn new(limits: Limits, admit: F) -> Desk<F>
+        requires { F.tells limits admit }
         ensures { result ≡ limits }
     {
-        Desk { limits }
+        Desk { limits, admit }
     }
 
     /// Applies the caller's orders from where it left off, tells the board, and tends between them.
@@ -93,9 +94,7 @@ impl Desk {
         ensures hindered { IfStalled result (λ at used free. so_far.new.next ≡ so_far.old.next
             → IsHindered 0 orders.now so_far.old.next (C.sight c.old) (C.sight c.new)) }
     {
-        // They admit every order; contracts alone need to know it.
-        let _ = &self.limits;
-        let ended = work_through(alloc, c, orders, so_far, gate);
+        let ended = self.work_through(alloc, c, orders, so_far, gate);
         clear_places(c, Root(4), Root(17));
         match ended {
             Ok(()) => Worked::Finished,
@@ -107,66 +106,71 @@ impl Desk {
             Err(Halt::Memory) => Worked::Memory,
         }
     }
-}
 
-/// Applies the next order, tells the board, and tends.
-fn work_on<C: Worker<BookUsage>, G: Gate>(
-    alloc: Global,
-    c: &mut C,
-    orders: &[Order],
-    so_far: &mut Progress,
-    gate: &G,
-) -> Result<(), Halt>
-    requires work { IsAtWork (C.sight c.old) orders.now so_far.old }
-    requires more { so_far.old.next < length orders.now }
-    requires settled { so_far.old.told ≡ so_far.old.next }
-    ensures work { IsAtWork (C.sight c.new) orders.now so_far.new }
-    ensures goes { GoesOn (C.sight c.old) (C.sight c.new) }
-    ensures further { so_far.old.next ≤ so_far.new.next }
-    ensures next { OnOk result (so_far.new.next ≡ so_far.old.next + 1) }
-    ensures told { OnOk result (so_far.new.told ≡ so_far.new.next) }
-    ensures full { IfErr result (λ halt. IfFull halt (WasFull (C.sight c.old))) }
-    ensures up { IfErr result (λ halt. IfFull halt (IsUsedUp (C.sight c.new))) }
-    ensures tends { (C.sight c.old).tends + so_far.new.next
-        ≤ (C.sight c.new).tends + so_far.old.next }
-    ensures hindered { IfErr result (λ halt. IfFull halt (λ used free.
-        so_far.new.next ≡ so_far.old.next
-        → IsHindered 1 orders.now so_far.old.next (C.sight c.old) (C.sight c.new))) }
-{
-    let order = &orders[so_far.next as usize];
-    // The files are numbered one above their callers.
-    gate.pass(order.file - 1, order.row);
-    apply(alloc, c, orders, so_far)?;
-    tell(c, orders, so_far)?;
-    tend_after(c);
-    Ok(())
-}
-
-/// The same for all orders that are left, after the number that the board is owed.
-fn work_through<C: Worker<BookUsage>, G: Gate>(
-    alloc: Global,
-    c: &mut C,
-    orders: &[Order],
-    so_far: &mut Progress,
-    gate: &G,
-) -> Result<(), Halt>
-    requires work { IsAtWork (C.sight c.old) orders.now so_far.old }
-    ensures work { IsAtWork (C.sight c.new) orders.now so_far.new }
-    ensures goes { GoesOn (C.sight c.old) (C.sight c.new) }
-    ensures further { so_far.old.next ≤ so_far.new.next }
-    ensures next { OnOk result (so_far.new.next ≡ length orders.now) }
-    ensures told { OnOk result (so_far.new.told ≡ so_far.new.next) }
-    ensures full { IfErr result (λ halt. IfFull halt (WasFull (C.sight c.old))) }
-    ensures up { IfErr result (λ halt. IfFull halt (IsUsedUp (C.sight c.new))) }
-    ensures tends { (C.sight c.old).tends + so_far.new.next
-        ≤ (C.sight c.new).tends + so_far.old.next }
-    ensures hindered { IfErr result (λ halt. IfFull halt (λ used free.
-        so_far.new.next ≡ so_far.old.next
-        → IsHindered 0 orders.now so_far.old.next (C.sight c.old) (C.sight c.new))) }
-{
-    settle(c, orders, so_far)?;
-    while so_far.next < orders.len() as u64 {
-        work_on(alloc, c, orders, so_far, gate)?;
+    /// Applies the next order, tells the board, and tends.
+    fn work_on<C: Worker<BookUsage>, G: Gate>(
+        &self,
+        alloc: Global,
+        c: &mut C,
+        orders: &[Order],
+        so_far: &mut Progress,
+        gate: &G,
+    ) -> Result<(), Halt>
+        requires work { IsAtWork (C.sight c.old) orders.now so_far.old }
+        requires limits { (C.sight c.old).usage.limits ≡ self.now }
+        requires more { so_far.old.next < length orders.now }
+        requires settled { so_far.old.told ≡ so_far.old.next }
+        ensures work { IsAtWork (C.sight c.new) orders.now so_far.new }
+        ensures goes { GoesOn (C.sight c.old) (C.sight c.new) }
+        ensures further { so_far.old.next ≤ so_far.new.next }
+        ensures next { OnOk result (so_far.new.next ≡ so_far.old.next + 1) }
+        ensures told { OnOk result (so_far.new.told ≡ so_far.new.next) }
+        ensures full { IfErr result (λ halt. IfFull halt (WasFull (C.sight c.old))) }
+        ensures up { IfErr result (λ halt. IfFull halt (IsUsedUp (C.sight c.new))) }
+        ensures tends { (C.sight c.old).tends + so_far.new.next
+            ≤ (C.sight c.new).tends + so_far.old.next }
+        ensures hindered { IfErr result (λ halt. IfFull halt (λ used free.
+            so_far.new.next ≡ so_far.old.next
+            → IsHindered 1 orders.now so_far.old.next (C.sight c.old) (C.sight c.new))) }
+    {
+        let order = &orders[so_far.next as usize];
+        // The files are numbered one above their callers.
+        gate.pass(order.file - 1, order.row);
+        let admitted = self.admit.admits(order);
+        apply(alloc, c, orders, so_far, admitted)?;
+        tell(c, orders, so_far)?;
+        tend_after(c);
+        Ok(())
     }
-    Ok(())
+
+    /// The same for all orders that are left, after the number that the board is owed.
+    fn work_through<C: Worker<BookUsage>, G: Gate>(
+        &self,
+        alloc: Global,
+        c: &mut C,
+        orders: &[Order],
+        so_far: &mut Progress,
+        gate: &G,
+    ) -> Result<(), Halt>
+        requires work { IsAtWork (C.sight c.old) orders.now so_far.old }
+        requires limits { (C.sight c.old).usage.limits ≡ self.now }
+        ensures work { IsAtWork (C.sight c.new) orders.now so_far.new }
+        ensures goes { GoesOn (C.sight c.old) (C.sight c.new) }
+        ensures further { so_far.old.next ≤ so_far.new.next }
+        ensures next { OnOk result (so_far.new.next ≡ length orders.now) }
+        ensures told { OnOk result (so_far.new.told ≡ so_far.new.next) }
+        ensures full { IfErr result (λ halt. IfFull halt (WasFull (C.sight c.old))) }
+        ensures up { IfErr result (λ halt. IfFull halt (IsUsedUp (C.sight c.new))) }
+        ensures tends { (C.sight c.old).tends + so_far.new.next
+            ≤ (C.sight c.new).tends + so_far.old.next }
+        ensures hindered { IfErr result (λ halt. IfFull halt (λ used free.
+            so_far.new.next ≡ so_far.old.next
+            → IsHindered 0 orders.now so_far.old.next (C.sight c.old) (C.sight c.new))) }
+    {
+        settle(c, orders, so_far)?;
+        while so_far.next < orders.len() as u64 {
+            self.work_on(alloc, c, orders, so_far, gate)?;
+        }
+        Ok(())
+    }
 }

@@ -8,6 +8,7 @@
 //! |---|---|
 //! | owed number | If the board was not told the last order, it is told first. |
 //! | gate | The caller passes its [`Gate`] before each order, which tests use to hold it up. |
+//! | admission | It asks the desk's closure whether the limits admit the order ([`Admission`]). |
 //! | attempt | It fetches the common object, builds what the order leaves, and stores that by a conditional store. |
 //! | board | It stores how many of its orders are applied. |
 //! | tending | It does the collector's work until nothing more is to be done, or it moved the cycle on eight times. |
@@ -29,6 +30,7 @@
 //! history spells: `specs/Progress.antt` has it. `proofs/Fresh.antt` has what stands before the first call.
 #![tactic(auto)]
 
+mod admission;
 mod applying;
 mod desk;
 mod gate;
@@ -37,6 +39,7 @@ mod progress;
 mod telling;
 mod tending;
 
+pub use admission::Admission;
 pub use desk::{Desk, Worked};
 pub use gate::{Gate, NoGate};
 pub use progress::Progress;

@@ -45,7 +45,6 @@ own_file c files k orders are is number lengths =
     record {
       rows = subst (λ (q : ℕ). AreRowsOf (q + 1) orders) (sym number) file.rows;
       few = omega (arith, long);
-      limits = file.limits;
     }
 
 module _ (m : Made BookUsage) (passes : List (Facts BookUsage)) (files : List (List Order)) (are : AreOfFiles files)

@@ -1,7 +1,6 @@
 -- What is loaded from the files that the words name, and why loading them is refused.
-use Rattle.std.specs.Prelude.{◌≡◌, ℕ, ◌<◌, ◌≤◌, List, All, length, Option, IfSome, Ok, Err, option_and_then}
+use Rattle.std.specs.Prelude.{◌≡◌, ℕ, ◌<◌, ◌≤◌, List, length, Option, IfSome, Ok, Err, option_and_then}
 use Rattle.hm_orders.specs.declared.order.Order.{Order}
-use Rattle.hm_orders.specs.declared.order.Kind.TheVariants.{Limit}
 use Rattle.hm_orders.specs.declared.read.TextRefused.{TextRefused}
 use Rattle.hm_orders.specs.Orders.{AreRowsOf}
 use Rattle.hm_orders.specs.Rows.{most_rows, orders_held}
@@ -40,10 +39,9 @@ pub record IsRefusedText (file : ℕ) (refusal : TextRefused) (bytes : List ℕ)
   pub within : IsWithin bytes
   pub refused : orders_held file bytes ≡ Err refusal
 
--- the orders are a file's: row by row, limit orders alone, and no more than a file may have
+-- the orders are a file's: row by row, and no more than a file may have
 pub record AreOfFile (file : ℕ) (orders : List Order) : Type 0 where
   pub rows : AreRowsOf file orders
-  pub limits : All (λ order. order.kind ≡ Limit) orders
   pub most : length orders ≤ most_rows
 
 -- there are from 1 to 8 lists of orders, each that of the file with its number

@@ -7,7 +7,7 @@ ghost use Rattle.hm_replay.specs.Working.{IsAtWork, IsReady, Works};
 use crate::conclusion::Came;
 use hm_cellbook::BookUsage;
 use hm_cells::Pass;
-use hm_desk::{Desk, Gate, Progress, Worked};
+use hm_desk::{Admission, Desk, Gate, Progress, Worked};
 use hm_heap::{Heap, Mutator};
 use hm_orders::Order;
 use std::alloc::Global;
@@ -64,7 +64,7 @@ impl<'h> Job<'h> {
     }
 
     /// Applies the orders as far as the caller comes.
-    pub fn work<G: Gate>(&mut self, alloc: Global, desk: &Desk, gate: &G)
+    pub fn work<F: Admission, G: Gate>(&mut self, alloc: Global, desk: &Desk<F>, gate: &G)
         requires desk { desk.now ≡ no_limits }
         ensures { Works self.old self.new }
     {

@@ -1,6 +1,7 @@
 //! The program's work from its words to its status.
 ghost use Rattle.std.specs.Prelude.{◌≡◌, ◌≢◌, ◌==◌, if◌then◌else◌, ◌⊎◌, ℕ, ◌<◌, ◌≤◌, ◌↔◌, List, [], ◌∷◌, Contains, length, Some, None, Ok, Err, IsSome, IfErr, IfSome, OnOk};
 ghost use Rattle.hm_edge.specs.Faults.{Rose, next_count};
+ghost use Rattle.hm_book.specs.Limits.{no_limits};
 ghost use Rattle.hm_replay.specs.Words.{files_named, texts};
 ghost use Rattle.hm_replay.specs.Loading.{most_files};
 ghost use Rattle.hm_replay.specs.Headline.{Headline, IsReplay, PutsReport};
@@ -13,9 +14,10 @@ use crate::refusal::Refused;
 use crate::replay::{Replayed, replay};
 use hm_cellbook::BookUsage;
 use hm_cells::Closed;
-use hm_desk::Gate;
+use hm_book::Limits;
+use hm_desk::{Admission, Gate};
 use hm_edge::{Shelf, Sink};
-use hm_orders::write_report;
+use hm_orders::{Order, write_report};
 use std::alloc::Global;
 use std::thread::Threads;
 
@@ -28,14 +30,16 @@ struct Ended {
 }
 
 /// Reads the files that the words name, replays their orders, and writes the report.
-fn replay_files<R: Threads + Sync, S: Shelf, K: Sink, G: Gate + Sync>(
+fn replay_files<R: Threads + Sync, S: Shelf, K: Sink, F: Admission + Sync, G: Gate + Sync>(
     rt: &R,
     alloc: Global,
     words: &[String],
     shelf: &mut S,
     out: &mut K,
+    admit: F,
     gate: &G,
 ) -> Ended
+    requires tells { F.tells no_limits admit }
     ensures headline { OnOk result.result (IfSome (files_named (texts words.now)) (λ names.
         Headline (S.told shelf.old) names result.closed (K.written out.old) (K.written out.new))) }
     ensures lines { OnOk result.result (IfSome (files_named (texts words.now)) (λ names.
@@ -78,7 +82,7 @@ fn replay_files<R: Threads + Sync, S: Shelf, K: Sink, G: Gate + Sync>(
             };
         }
     };
-    let Replayed { closed, ended } = replay(rt, alloc, files, gate);
+    let Replayed { closed, ended } = replay(rt, alloc, files, admit, gate);
     let report = match ended {
         Ok(report) => report,
         Err(Stopped::Full(at)) => {
@@ -183,11 +187,12 @@ pub fn run<R: Threads + Sync, S: Shelf, K: Sink, E: Sink, G: Gate + Sync>(
     ensures one_put { E.puts err.new ≡ (if result.status == 0
         then E.puts err.old else next_count (E.puts err.old)) }
 {
+    let admit = |order: &Order| Limits::NONE.admits(order);
     let Ended {
         closed,
         full,
         result,
-    } = replay_files(rt, alloc, words, shelf, out, gate);
+    } = replay_files(rt, alloc, words, shelf, out, admit, gate);
     let Err(refused) = result else {
         return Outcome {
             status: 0,

@@ -1,6 +1,7 @@
 //! From the orders of several files to their report.
 ghost use Rattle.std.specs.Prelude.{◌≡◌, ◌<◌, ◌≤◌, [], vec_capacity, slice_index_or, ℕ, All, IfOk, IfErr, IfSome, IsSome, List, map, length, Some, None, Err};
 ghost use Rattle.hm_orders.specs.declared.order.Order.{Order};
+ghost use Rattle.hm_book.specs.Limits.{no_limits};
 ghost use Rattle.hm_cells.specs.Closing.{AreAll};
 ghost use Rattle.hm_cells.specs.Facts.{IsAtRest};
 ghost use Rattle.hm_replay.specs.Loading.{AreOfFiles};
@@ -13,7 +14,7 @@ use crate::job::Job;
 use hm_book::Limits;
 use hm_cellbook::{BookUsage, Lengths};
 use hm_cells::{Closed, Pass};
-use hm_desk::{Desk, Gate};
+use hm_desk::{Admission, Desk, Gate};
 use hm_heap::{Heap, close};
 use hm_model::Start;
 use hm_orders::{Order, Report};
@@ -32,12 +33,14 @@ pub(crate) struct Replayed {
 }
 
 /// Applies the orders of the files, each file's by a caller of its own, to an empty book on a shared heap.
-pub(crate) fn replay<R: Threads + Sync, G: Gate + Sync>(
+pub(crate) fn replay<R: Threads + Sync, F: Admission + Sync, G: Gate + Sync>(
     rt: &R,
     alloc: Global,
     files: Vec<Vec<Order>>,
+    admit: F,
     gate: &G,
 ) -> Replayed
+    requires tells { F.tells no_limits admit }
     requires files { AreOfFiles (map (λ orders. orders.items) files.items) }
     ensures heap { IfSome result.closed (IsReplay (length files.items)) }
     ensures unmade { result.closed ≡ None → result.ended ≡ Err Stopped.Memory }
@@ -54,7 +57,8 @@ pub(crate) fn replay<R: Threads + Sync, G: Gate + Sync>(
             ended: Err(Stopped::Memory),
         };
     };
-    let (passes, came) = work_all(rt, alloc, &heap, passes, files.as_slice(), gate);
+    let desk = Desk::new(Limits::NONE, admit);
+    let (passes, came) = work_all(rt, alloc, &heap, passes, files.as_slice(), &desk, gate);
     let closed = Some(close(heap, passes));
     match came {
         Some(came) => Replayed {
@@ -99,17 +103,19 @@ fn open(
 
 /// Lets all callers work side by side, each on the orders of its file, and gives their passes back. There is nothing
 /// beside them where there was no memory for that, and then no caller has worked.
-fn work_all<R: Threads + Sync, G: Gate + Sync>(
+fn work_all<R: Threads + Sync, F: Admission + Sync, G: Gate + Sync>(
     rt: &R,
     alloc: Global,
     heap: &Heap<BookUsage>,
     passes: Vec<Pass<BookUsage>>,
     files: &[Vec<Order>],
+    desk: &Desk<F>,
     gate: &G,
 ) -> (Vec<Pass<BookUsage>>, Option<Vec<Came>>)
     requires all { AreAll heap.now passes.items }
     requires rest { All IsAtRest passes.items }
     requires some { 0 < length passes.items }
+    requires desk { desk.now ≡ no_limits }
     requires ready { AreReady passes.items (map (λ orders. orders.items) files.now) }
     ensures all { AreAll heap.now result.0.items }
     ensures worked { IfSome result.1 (λ came. HaveWorked passes.items result.0.items
@@ -126,25 +132,26 @@ fn work_all<R: Threads + Sync, G: Gate + Sync>(
         return (passes, None);
     };
     let mut jobs = jobs_of(alloc, heap, passes, files, jobs);
-    work_side_by_side(rt, alloc, jobs.as_mut_slice(), gate);
+    work_side_by_side(rt, alloc, jobs.as_mut_slice(), desk, gate);
     let (back, came) = ends_of(jobs, back, came);
     (back, Some(came))
 }
 
 /// Lets the callers of all jobs work, on as many threads as there are callers.
-fn work_side_by_side<R: Threads + Sync, G: Gate + Sync>(
+fn work_side_by_side<R: Threads + Sync, F: Admission + Sync, G: Gate + Sync>(
     rt: &R,
     alloc: Global,
     jobs: &mut [Job<'_>],
+    desk: &Desk<F>,
     gate: &G,
 )
-    requires { 0 < length jobs.old }
+    requires some { 0 < length jobs.old }
+    requires desk { desk.now ≡ no_limits }
     ensures count { length jobs.new ≡ length jobs.old }
     ensures works { (k : ℕ) (d : Working) → k < length jobs.old
         → Works (slice_index_or jobs.old k d) (slice_index_or jobs.new k d) }
 {
-    let desk = Desk::new(Limits::NONE);
-    thread::for_each_mut(rt, jobs, jobs.len(), &|_, job| job.work(alloc, &desk, gate));
+    thread::for_each_mut(rt, jobs, jobs.len(), &|_, job| job.work(alloc, desk, gate));
 }
 
 /// A job for each pass, in the same order, with the orders of its file. There is room for all of them.

@@ -74,7 +74,7 @@ fn run_words<R: Threads + Sync>(
 }
 
 /// A file's text, the status, the report and the line of the refusal.
-const FILES: [(&str, u8, &str, &str); 11] = [
+const FILES: [(&str, u8, &str, &str); 16] = [
     ("", 0, "board 0\nend 0 0 0\n", ""),
     (
         "L,1,B,10,5\nL,2,S,9,3\n",
@@ -116,6 +116,26 @@ const FILES: [(&str, u8, &str, &str); 11] = [
     ("L,1,B,0,1\n", 3, "", "hm: text 1 1 price\n"),
     ("L,1,B,10,5\n\nL,2,S,9\n", 3, "", "hm: text 1 2 fields\n"),
     ("X,1,B,10,5", 3, "", "hm: text 1 1 kind\n"),
+    ("M,1,B,10,5\n", 3, "", "hm: text 1 1 price\n"),
+    ("C,1,B,,\n", 3, "", "hm: text 1 1 side\n"),
+    (
+        "L,1,B,10,5\nM,2,S,,9\n",
+        0,
+        "order 1 1 1 rested\norder 2 1 2 dropped\nfill 1 2 1 10 5\nboard 2\nend 2 1 0\n",
+        "",
+    ),
+    (
+        "L,1,B,10,5\nC,1,,,\nC,1,,,\n",
+        0,
+        "order 1 1 1 rested\norder 2 1 2 cancelled\norder 3 1 3 unknown\nboard 3\nend 3 0 0\n",
+        "",
+    ),
+    (
+        "L,1,B,10,5\r\n\n\"L\",2,S,9,3",
+        0,
+        "order 1 1 1 rested\norder 2 1 2 filled\nfill 1 2 1 10 3\nboard 2\nend 2 1 1\n",
+        "",
+    ),
 ];
 
 #[test]
@@ -169,6 +189,18 @@ fn two_files_give_the_report_of_one_of_their_interleavings(rt: HostRuntime) -> R
     let report = ran.out.bytes();
     assert!(rt; report == buy_first.as_slice() || report == sell_first.as_slice());
     assert!(rt; ran.err.bytes().is_empty());
+    Ok(())
+}
+
+#[test]
+fn a_cancel_takes_out_no_order_of_another_file(rt: HostRuntime) -> Result<(), Fail> {
+    let texts = ["L,1,B,10,5\n", "C,1,,,\n"];
+    let ran = run_words(&rt, rt.alloc(), &["replay", "a", "b"], &texts)?;
+    assert_eq!(rt; ran.outcome.status, 0);
+    let buy_first = b"order 1 1 1 rested\norder 2 2 1 unknown\nboard 1 1\nend 2 0 1\n";
+    let cancel_first = b"order 1 2 1 unknown\norder 2 1 1 rested\nboard 1 1\nend 2 0 1\n";
+    let report = ran.out.bytes();
+    assert!(rt; report == buy_first.as_slice() || report == cancel_first.as_slice());
     Ok(())
 }
 

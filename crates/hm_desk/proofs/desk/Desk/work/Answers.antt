@@ -1,6 +1,4 @@
 -- The caller sits down at its desk, works, and gets up.
-use Rattle.std.proofs.Common.{subst}
-use Rattle.hm_desk.specs.Desk.{AdmitAll}
 use Rattle.hm_desk.proofs.Quiet.{quiet_on, quiet_rests}
 use Rattle.hm_desk.proofs.Hindering.{hindered_goes}
 use Rattle.hm_desk.proofs.Beginning.{work_begins}
@@ -8,8 +6,8 @@ use Rattle.hm_desk.proofs.desk.Desk.work.Goals as goal
 
 pub work_through-ended-requires : goal.work_through-ended-requires
 work_through-ended-requires g c = record {
-  work = work_begins c.args.self.now _ _ _ (subst AdmitAll c.self.view_is c.self.invariant) c.requires.keeps
-      c.requires.orders c.requires.come;
+  work = work_begins c.args.self.now _ _ _ c.requires.keeps c.requires.orders c.requires.come;
+  limits = c.requires.keeps.limits_are;
 }
 
 pub returns-in-Err-Full-clause-hindered : goal.returns-in-Err-Full-clause-hindered

@@ -4,7 +4,7 @@ use Rattle.hm_desk.specs.Stalling.{IfFull, WasFull}
 use Rattle.hm_desk.specs.Hindered.{IsHindered}
 use Rattle.hm_desk.proofs.Hindering.{hindered_same, hindered_settled, if_full_so}
 use Rattle.hm_desk.proofs.Quiet.{full_earlier_err, on_then}
-use Rattle.hm_desk.proofs.desk.work_through.Goals as goal
+use Rattle.hm_desk.proofs.desk.Desk.work_through.Goals as goal
 
 pub loop-so_far-preserved : goal.loop-so_far-preserved
 loop-so_far-preserved g c = record {

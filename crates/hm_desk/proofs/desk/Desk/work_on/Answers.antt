@@ -3,7 +3,7 @@ use Rattle.std.proofs.Common.{rules, IfErr}
 use Rattle.hm_desk.specs.Stalling.{IfFull, WasFull}
 use Rattle.hm_desk.proofs.Quiet.{full_earlier_err, on_names, on_then}
 use Rattle.hm_desk.proofs.Coming.{work_names}
-use Rattle.hm_desk.proofs.desk.work_on.Goals as goal
+use Rattle.hm_desk.proofs.desk.Desk.work_on.Goals as goal
 
 pub returns-in_err-tell-clause-goes : goal.returns-in_err-tell-clause-goes
 returns-in_err-tell-clause-goes g c = on_then _ _ _ c.apply.ensures.goes c.tell.ensures.goes

@@ -2,7 +2,7 @@
 use Rattle.std.proofs.Common.{length, ◌⊎◌, ◌-◌, ◌+◌, ◌≡◌, ◌≤◌}
 use Rattle.hm_desk.specs.Hindered.{IsHindered, Settles}
 use Rattle.hm_desk.specs.Working.{GoesOn, IsAtWork}
-use Rattle.hm_desk.proofs.desk.work_through.Given as goal
+use Rattle.hm_desk.proofs.desk.Desk.work_through.Given as goal
 
 abbrev pub invariant-loop-so_far : goal.invariant-loop-so_far
 invariant-loop-so_far g l = record {
