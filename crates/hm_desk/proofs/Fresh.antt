@@ -1,5 +1,5 @@
 -- The caller of a fresh heap keeps the empty book, and has come nowhere with its orders.
-use Rattle.std.proofs.Common.{◌≡◌, ◌==◌, ◌+◌, ◌<◌, List, [], ◌∷◌, All, Some, None, rules, inl, refl, sym, ap, ◌∙◌, subst, arith, replicate, IsTrue}
+use Rattle.std.proofs.Common.{◌≡◌, ◌==◌, ◌+◌, ◌<◌, List, [], ◌∷◌, All, Some, None, rules, inl, refl, sym, ap, ◌∙◌, subst, arith, replicate}
 use Rattle.std.proofs.lemmas.List.Elements.{All-cons, All-filter, All-nil}
 use Rattle.hm_orders.specs.declared.order.Order.{Order}
 use Rattle.hm_orders.specs.Interleaving.{dones_part}
