@@ -46,14 +46,25 @@ done_lines done = order_line done ∷ map fill_line done.fills
 abbrev pub fill_count : List Done → ℕ
 fill_count dones = sum_by (λ done. length done.fills) dones
 
--- the lines of each order with its fills, then the board, then the numbers of orders, fills and
--- resting orders
+-- the line of the board: how many orders each file had
+abbrev pub board_line : Report → List ℕ
+board_line report = line_of (codes "board") report.board
+
+-- the last line: the numbers of orders, fills and resting orders
+abbrev pub end_line : Report → List ℕ
+end_line report =
+    line_of (codes "end") (length report.done ∷ fill_count report.done ∷ report.resting ∷ [])
+
+-- the lines of each order with its fills, then the board's, then the last
 abbrev pub report_lines : Report → List (List ℕ)
 report_lines report =
-    flat_map done_lines report.done
-    ++ line_of (codes "board") report.board ∷ []
-    ++ line_of (codes "end")
-    (length report.done ∷ fill_count report.done ∷ report.resting ∷ []) ∷ []
+    flat_map done_lines report.done ++ board_line report ∷ end_line report ∷ []
+
+-- a summary of orders that were made from a number: that number and how many they are, then the
+-- board's line and the last
+abbrev pub summary_lines : ℕ → ℕ → Report → List (List ℕ)
+summary_lines number count report =
+    line_of (codes "generated") (number ∷ count ∷ []) ∷ board_line report ∷ end_line report ∷ []
 
 -- lines, one after another
 abbrev pub joined : List (List ℕ) → List ℕ
@@ -62,6 +73,10 @@ joined lines = flat_map (λ line. line) lines
 -- the text of a report is its lines
 abbrev pub report_text : Report → List ℕ
 report_text report = joined (report_lines report)
+
+-- the text of a summary too
+abbrev pub summary_text : ℕ → ℕ → Report → List ℕ
+summary_text number count report = joined (summary_lines number count report)
 
 -- what a sink tells is what it told before and then a front of the text
 pub record AddsFront (text : List ℕ) (old new : Option (List ℕ)) : Type 0 where

@@ -10,7 +10,7 @@
 //! C,7,,,        cancel: takes out what rests of order 7
 //! ```
 //!
-//! [`read_orders`] reads an order file, [`write_report`] writes a report, [`merge`] puts what became of the orders of
+//! [`read_orders`] reads an order file, [`write_report`] writes a report and [`write_summary`] its end, [`merge`] puts what became of the orders of
 //! several files into one list. Both formats stand in docs/FORMATS.md and, as definitions that the contracts cite, in
 //! `specs/Rows.antt` and `specs/ReportText.antt`; what it is to have the orders of several files in one list stands in
 //! `specs/Interleaving.antt`.
@@ -32,4 +32,4 @@ pub use merging::merge;
 pub use order::{Kind, Order, Side};
 pub use read::{Part, ReadRefused, TextRefused, read_orders};
 pub use report::{Board, Done, DoneList, Fate, Fill, Fills, Report};
-pub use write::{WriteRefused, write_report};
+pub use write::{WriteRefused, write_report, write_summary};

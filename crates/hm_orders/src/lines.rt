@@ -35,6 +35,15 @@ pub fn write_fill(line: &mut String, fill: &Fill) -> Result<(), AllocError>
     writeln!(line, "fill {number} {taker} {maker} {price} {quantity}")
 }
 
+/// Replaces the buffer by the first line of a summary: from which number its orders were made, and how many.
+pub fn write_generated(line: &mut String, number: u64, count: u64) -> Result<(), AllocError>
+    ensures { OnOk result
+        (string_bytes line.new ≡ line_of (codes "generated") (number ∷ count ∷ [])) }
+{
+    line.clear();
+    writeln!(line, "generated {number} {count}")
+}
+
 /// Replaces the buffer by the line of the board, which has a number for each file.
 pub fn write_board(line: &mut String, numbers: &[u64]) -> Result<(), AllocError>
     ensures { OnOk result (string_bytes line.new ≡ line_of (codes "board") numbers.now) }

@@ -3,7 +3,7 @@ use crate::merging::merge;
 use crate::order::{Kind, Order, Side};
 use crate::read::{Part, ReadRefused, TextRefused, read_orders};
 use crate::report::{Board, Done, DoneList, Fate, Fill, Fills, Report};
-use crate::write::{WriteRefused, write_report};
+use crate::write::{WriteRefused, write_report, write_summary};
 use hm_edge::{Sink, SinkFailed};
 use std::alloc::{AllocError, Global};
 use std::test::Fail;
@@ -170,6 +170,24 @@ fn a_report_is_put_line_by_line(rt: HostRuntime) -> Result<(), Fail> {
         assert_eq!(rt; out.bytes.as_slice(), text.as_bytes());
         assert_eq!(rt; out.puts, puts);
     }
+    Ok(())
+}
+
+#[test]
+fn a_summary_has_the_end_of_a_report(rt: HostRuntime) -> Result<(), Fail> {
+    let report = report(rt.alloc())?;
+    let mut out = Lines {
+        bytes: Vec::new(rt.alloc()),
+        puts: 0,
+        fails_at: 0,
+        faults: 0,
+    };
+    assert_eq!(rt; write_summary(rt.alloc(), 7, 3, &report, &mut out), Ok(()));
+    assert_eq!(rt;
+        out.bytes.as_slice(),
+        b"generated 7 3\nboard 3\nend 3 2 0\n".as_slice()
+    );
+    assert_eq!(rt; out.puts, 3);
     Ok(())
 }
 
