@@ -6,9 +6,10 @@ import sys
 
 from common import Case, content, path
 
-SCRIPTS = ("bench", "bench_files", "explain", "ops", "report_check", "report_csv", "report_svg", "test")
+SCRIPTS = ("bench", "bench_files", "explain", "generate_file", "ops", "report_check", "report_csv", "report_svg", "test")
 REPORT, ORDERS = path("crates", "hm_tool", "stdout"), path("demo", "first.csv")
-CALLS = [["report_check", REPORT, ORDERS], ["report_svg", REPORT, ORDERS], ["explain", "hm: write", "replay", "f"]]
+CALLS = [["report_check", REPORT, ORDERS], ["report_svg", REPORT, ORDERS], ["explain", "hm: write", "replay", "f"],
+         ["generate_file", "7", "9"]]
 CALLS += [[name, "--help"] for name in SCRIPTS]
 
 
@@ -28,7 +29,7 @@ class Streams(Case):
         self.assertEqual(done.returncode, 2)
 
     def test_closed_input_or_errors_change_nothing(self):
-        for words in CALLS[:4]:
+        for words in CALLS[:5]:
             plain = self.shell('"scripts/$@"', *words)
             for stream in ("<&-", "2>&-", "2>/dev/full"):
                 with self.subTest(words=words, stream=stream):
