@@ -53,7 +53,7 @@ order-well_formed row drawn fits = grind arith
 all-made : (P : Order → Type 0) (number count : ℕ)
     → ((row : ℕ) → row ≤ count → P (order_at number row)) → All P (orders_made number count)
 all-made P number count each = λ k d within.
-    let below : k < count = omega (arith, within, length-map-range_with_len (order_at number) 1 count) in
+    let below : k < count = omega (arith, within, length-made number count) in
     subst P (sym (get_or-map-range_with_len (order_at number) 1 count k (1 + k) d below refl))
     (each (1 + k) (omega (arith, below)))
 
@@ -63,15 +63,17 @@ rows-made : (number first count : ℕ)
     ≡ range_with_len first count
 rows-made number first zero = refl
 rows-made number first (suc count) =
-    λ i. order-row first (high_half (state_at number first)) i ∷ rows-made number (first + 1) count i
+    λ i. order-row first (high_half (state_at number first)) i
+    ∷ rows-made number (first + 1) count i
 
 -- orders that are made are rows 1, 2, 3 and so on of file 1
 pub made-are_rows : (number count : ℕ) → count ≤ 1000000 → AreRowsOf 1 (orders_made number count)
 made-are_rows number count fits = record {
   each = all-made IsWellFormed number count
-      (λ row within. order-well_formed row (high_half (state_at number row)) (omega (arith, within, fits)));
+      (λ row within. order-well_formed row (high_half (state_at number row))
+      (omega (arith, within, fits)));
   of_file = all-made (λ order. order.file ≡ 1) number count
       (λ row within. order-file row (high_half (state_at number row)));
   rows = rows-made number 1 count
-      ∙ ap (range_with_len 1) (sym (length-map-range_with_len (order_at number) 1 count));
+      ∙ ap (range_with_len 1) (sym (length-made number count));
 }

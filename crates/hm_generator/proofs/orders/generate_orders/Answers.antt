@@ -40,11 +40,12 @@ returns-clause-orders c =
       | then-loop-row-test+in_ok-push+else-row-count w ↦
           let last : row ≡ c.args.count = omega (arith, w) in
           let state =
-          state-at c.args.number row c.loop-row.generator.state w.next.new.self.state c.loop-row.auto.row before.state
-          w.next.ensures.state in
+          state-at c.args.number row c.loop-row.generator.state w.next.new.self.state
+          c.loop-row.auto.row before.state w.next.ensures.state in
           ap items w.orders-is ∙ w.in_ok-push.ensures.items
-          ∙ made-at c.args.number row w.next.new.self.state w.next.result c.loop-row.orders.items w.order_from.result
-          c.loop-row.auto.row before.orders state w.next.ensures.drawn w.order_from.ensures
+          ∙ made-at c.args.number row w.next.new.self.state w.next.result c.loop-row.orders.items
+          w.order_from.result c.loop-row.auto.row before.orders state w.next.ensures.drawn
+          w.order_from.ensures
           ∙ ap (orders_made c.args.number) last
     ]
 
