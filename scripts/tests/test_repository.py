@@ -7,7 +7,8 @@ from common import Case, content, path
 from orders import in_turn
 from rows import Row
 
-SCRIPTS = ("bench", "bench_files", "explain", "generate_file", "ops", "report_check", "report_csv", "report_svg", "test")
+SCRIPTS = ("bench", "bench_files", "explain", "generate_file", "ops", "report_check", "report_csv", "report_svg",
+           "test")
 DOCUMENTS = ["README.md", "HACKING.md"] + sorted("docs/" + name for name in os.listdir(path("docs")))
 # A path begins with a name at the top of the repository. NAME and STORY stand for any name.
 PATH = re.compile(r"(?<![\w./-])(?:(?:\.ci|crates|demo|docs|scripts)/[\w./-]*\w|HACKING\.md|README\.md)")

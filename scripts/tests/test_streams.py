@@ -6,7 +6,8 @@ import sys
 
 from common import Case, content, path
 
-SCRIPTS = ("bench", "bench_files", "explain", "generate_file", "ops", "report_check", "report_csv", "report_svg", "test")
+SCRIPTS = ("bench", "bench_files", "explain", "generate_file", "ops", "report_check", "report_csv", "report_svg",
+           "test")
 REPORT, ORDERS = path("crates", "hm_tool", "stdout"), path("demo", "first.csv")
 CALLS = [["report_check", REPORT, ORDERS], ["report_svg", REPORT, ORDERS], ["explain", "hm: write", "replay", "f"],
          ["generate_file", "7", "9"]]
