@@ -193,7 +193,8 @@ fn a_caller_without_room_stalls_and_stalls_again(rt: HostRuntime) -> Result<(), 
 }
 
 /// A buy and a sell within limits, what passes each of them, and every other kind.
-const LIMITED: &[u8] = b"L,1,B,10,5\nL,2,B,9,101\nI,3,S,9,8\nM,4,B,,2\nL,5,S,21,1\nL,6,S,12,4\nC,6,,,\n";
+const LIMITED: &[u8] =
+    b"L,1,B,10,5\nL,2,B,9,101\nI,3,S,9,8\nM,4,B,,2\nL,5,S,21,1\nL,6,S,12,4\nC,6,,,\n";
 
 #[test]
 fn orders_past_the_limits_are_denied_and_trade_nothing(rt: HostRuntime) -> Result<(), Fail> {
