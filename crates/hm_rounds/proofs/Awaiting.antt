@@ -7,6 +7,7 @@ use Rattle.hm_rounds.specs.After.{after}
 use Rattle.hm_rounds.specs.Allowed.{Allowed}
 use Rattle.hm_rounds.specs.Rule.{Timely, Tied, Awaited}
 
+-- after a tick
 pub tick_awaited : (s : State) (i : ℕ) (b : Bool) (t : Tick) (m : ℕ) → Allowed s i (Ticks t)
     → Timely s i
     → Timely s m
@@ -16,6 +17,7 @@ pub tick_awaited : (s : State) (i : ℕ) (b : Bool) (t : Tick) (m : ℕ) → All
     → Awaited s m → Awaited (after s i b (Ticks t)) m
 tick_awaited s i b t m may own time all_tied tie times g = grind (arith, nat_tests)
 
+-- after a shift
 pub shift_awaited : (s : State) (i : ℕ) (b : Bool) (f : Shift) (m : ℕ) → Allowed s i (Shifts f)
     → i < s.shape.callers
     → Timely s i

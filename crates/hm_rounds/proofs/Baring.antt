@@ -22,6 +22,7 @@ NamesBare s t m = (w k : ℕ) → Mine t m w → k < s.shape.fields → t.versio
 abbrev pub HoldsBare : State → State → ℕ → Type 0
 HoldsBare s t m = (w : ℕ) → t.hands.held m w ≡ true → known_from s.shape t.masks m w ≡ false
 
+-- after a tick
 pub tick_named : (s : State) (i : ℕ) (b : Bool) (t : Tick) (m : ℕ) → Allowed s i (Ticks t)
     → Timely s m → Timely s i → Tied s i → Tied s m → Awaited s m → m < s.shape.callers
     → masks_count (after s i b (Ticks t)).clock m ≡ true → WasBare s m
@@ -29,22 +30,26 @@ pub tick_named : (s : State) (i : ℕ) (b : Bool) (t : Tick) (m : ℕ) → Allow
 tick_named s i b t m may time own ties tie wait lt win old w k mine below some = grind
     (arith, nat_tests)
 
+-- after a tick
 pub tick_held : (s : State) (i : ℕ) (b : Bool) (t : Tick) (m : ℕ) → Allowed s i (Ticks t)
     → Timely s m → Timely s i → Tied s i → Tied s m → Awaited s m → m < s.shape.callers
     → masks_count (after s i b (Ticks t)).clock m ≡ true → WasBare s m → i ≢ m
     → HoldsBare s (after s i b (Ticks t)) m
 tick_held s i b t m may time own ties tie wait lt win old other w h = grind (arith, nat_tests)
 
+-- after a look
 pub look_named : (s : State) (i : ℕ) (b : Bool) (l : Look) (m : ℕ) → Allowed s i (Looks l)
     → m < s.shape.callers → masks_count (after s i b (Looks l)).clock m ≡ true → WasBare s m
     → NamesBare s (after s i b (Looks l)) m
 look_named s i b l m may lt win old w k mine below some = grind (arith, nat_tests)
 
+-- after a look
 pub look_held : (s : State) (i : ℕ) (b : Bool) (l : Look) (m : ℕ) → Allowed s i (Looks l)
     → m < s.shape.callers → masks_count (after s i b (Looks l)).clock m ≡ true → WasBare s m → i ≢ m
     → HoldsBare s (after s i b (Looks l)) m
 look_held s i b l m may lt win old other w h = grind (arith, nat_tests)
 
+-- after a build
 pub build_named : (s : State) (i : ℕ) (b : Bool) (u : Build) (m : ℕ) → Allowed s i (Builds u)
     → Safe s → i < s.shape.callers → Drafted s i → Masked s m → m < s.shape.callers
     → masks_count (after s i b (Builds u)).clock m ≡ true → WasBare s m
@@ -52,12 +57,14 @@ pub build_named : (s : State) (i : ℕ) (b : Bool) (u : Build) (m : ℕ) → All
 build_named s i b u m may safe is draft mask lt win old w k mine below some = grind
     (arith, nat_tests)
 
+-- after a build
 pub build_held : (s : State) (i : ℕ) (b : Bool) (u : Build) (m : ℕ) → Allowed s i (Builds u)
     → Safe s → i < s.shape.callers → Drafted s i → Masked s m → m < s.shape.callers
     → masks_count (after s i b (Builds u)).clock m ≡ true → WasBare s m → i ≢ m
     → HoldsBare s (after s i b (Builds u)) m
 build_held s i b u m may safe is draft mask lt win old other w h = grind (arith, nat_tests)
 
+-- after a shift
 pub shift_named : (s : State) (i : ℕ) (b : Bool) (f : Shift) (m : ℕ) → Allowed s i (Shifts f)
     → i < s.shape.callers → Tied s i → Awaited s m → Safe s → m < s.shape.callers
     → masks_count (after s i b (Shifts f)).clock m ≡ true → WasBare s m
@@ -65,12 +72,14 @@ pub shift_named : (s : State) (i : ℕ) (b : Bool) (f : Shift) (m : ℕ) → All
 shift_named s i b f m may is ties wait safe lt win old how w k mine below some = grind
     (arith, nat_tests)
 
+-- after a shift
 pub shift_held : (s : State) (i : ℕ) (b : Bool) (f : Shift) (m : ℕ) → Allowed s i (Shifts f)
     → i < s.shape.callers → Tied s i → Awaited s m → Safe s → m < s.shape.callers
     → masks_count (after s i b (Shifts f)).clock m ≡ true → WasBare s m → i ≢ m
     → HoldsBare s (after s i b (Shifts f)) m
 shift_held s i b f m may is ties wait safe lt win old other w h = grind (arith, nat_tests)
 
+-- a fact that is true after a change was changed, or was true
 put_true : (f : ℕ → Bool) (i : ℕ) (b : Bool) (m : ℕ) → put f i b m ≡ true
     → ((m ≡ i) × (b ≡ true)) ⊎ ((i ≢ m) × (f m ≡ true))
 put_true f i b m e = grind (arith, nat_tests)

@@ -12,10 +12,12 @@ use Rattle.hm_rounds.specs.After.{after}
 use Rattle.hm_rounds.specs.Allowed.{Allowed}
 use Rattle.hm_rounds.specs.Rule.{Timely, Tied, Safe, Chained, Stored}
 
+-- after a tick
 pub tick_chained : (s : State) (i : ℕ) (b : Bool) (t : Tick) → Allowed s i (Ticks t)
     → Chained s → Chained (after s i b (Ticks t))
 tick_chained s i b t may g = grind (arith, nat_tests)
 
+-- after a build
 pub build_chained : (s : State) (i : ℕ) (b : Bool) (u : Build) → Allowed s i (Builds u)
     → Safe s
     → Stored s
@@ -33,6 +35,7 @@ pub end_alone : (s : State) (v w : ℕ) → Chained s → Live s v → Live s w 
 end_alone s v w g lv lw ev ew same =
     g.apart v w lv lw same (omega (arith, g.last v w lv ev lw same, g.last w v lw ew lv (sym same)))
 
+-- after a join
 join_chained : (s : State) (i : ℕ) (b : Bool) (r n : ℕ) → Allowed s i (Shifts (TakeJoin r n))
     → i < s.shape.callers → Tied s i → Safe s → Chained s
     → Chained (after s i b (Shifts (TakeJoin r n)))
@@ -45,14 +48,17 @@ join_chained s i b r n may is ties safe g =
       apart = λ w x l k. g.apart w x (was w l) (was x k);
     }
 
+-- after a turn
 turn_chained : (s : State) (i : ℕ) (b : Bool) (r n : ℕ) → Allowed s i (Shifts (Turn r n))
     → Safe s → Chained s → Chained (after s i b (Shifts (Turn r n)))
 turn_chained s i b r n may safe g = grind (arith, nat_tests)
 
+-- after a reuse
 reuse_chained : (s : State) (i : ℕ) (b : Bool) → Allowed s i (Shifts Reuse)
     → i < s.shape.callers → Timely s i → Chained s → Chained (after s i b (Shifts Reuse))
 reuse_chained s i b may is own g = grind (arith, nat_tests)
 
+-- after a shift
 pub shift_chained : (s : State) (i : ℕ) (b : Bool) (f : Shift) → Allowed s i (Shifts f)
     → i < s.shape.callers → Tied s i → Safe s → Timely s i → Chained s
     → Chained (after s i b (Shifts f))

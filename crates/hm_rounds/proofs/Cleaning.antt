@@ -7,6 +7,7 @@ use Rattle.hm_rounds.specs.After.{after}
 use Rattle.hm_rounds.specs.Allowed.{Allowed}
 use Rattle.hm_rounds.specs.Rule.{Timely, Tied, Masked, Safe, Drafted, Cleaned}
 
+-- after a tick
 pub tick_cleaned : (s : State) (i : ℕ) (b : Bool) (t : Tick) (m : ℕ) → Allowed s i (Ticks t)
     → Timely s m
     → i < s.shape.callers
@@ -16,6 +17,7 @@ pub tick_cleaned : (s : State) (i : ℕ) (b : Bool) (t : Tick) (m : ℕ) → All
     → Cleaned s m → Cleaned (after s i b (Ticks t)) m
 tick_cleaned s i b t m may time is safe own masks g = grind (arith, nat_tests)
 
+-- after a look
 pub look_cleaned : (s : State) (i : ℕ) (b : Bool) (l : Look) (m : ℕ) → Allowed s i (Looks l)
     → i < s.shape.callers
     → Safe s
@@ -24,6 +26,7 @@ pub look_cleaned : (s : State) (i : ℕ) (b : Bool) (l : Look) (m : ℕ) → All
     → Cleaned s m → Cleaned (after s i b (Looks l)) m
 look_cleaned s i b l m may is safe own masks g = grind (arith, nat_tests)
 
+-- after a build
 pub build_cleaned : (s : State) (i : ℕ) (b : Bool) (u : Build) (m : ℕ) → Allowed s i (Builds u)
     → i < s.shape.callers
     → Safe s
@@ -32,6 +35,7 @@ pub build_cleaned : (s : State) (i : ℕ) (b : Bool) (u : Build) (m : ℕ) → A
     → Cleaned s m → Cleaned (after s i b (Builds u)) m
 build_cleaned s i b u m may is safe draft masks g = grind (arith, nat_tests)
 
+-- after a shift
 pub shift_cleaned : (s : State) (i : ℕ) (b : Bool) (f : Shift) (m : ℕ) → Allowed s i (Shifts f)
     → i < s.shape.callers
     → Timely s i

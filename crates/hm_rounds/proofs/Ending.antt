@@ -11,6 +11,7 @@ use Rattle.hm_rounds.specs.After.{after}
 use Rattle.hm_rounds.specs.Allowed.{Allowed}
 use Rattle.hm_rounds.specs.Rule.{Timely, Tied, Awaited, Masked, Ended, Safe, Chained}
 
+-- after a tick
 pub tick_ended : (s : State) (i : ℕ) (b : Bool) (t : Tick) (m : ℕ) → Allowed s i (Ticks t)
     → Timely s m
     → Timely s i
@@ -29,6 +30,7 @@ load_later : (s : State) (i : ℕ) (b : Bool) (v j : ℕ) (scan : Bool) (m o k w
     → s.versions.object w ≡ o → k < s.versions.rank w → known_from s.shape s.masks m w ≡ false
 load_later s i b v j scan m o k w e last old same later = grind (arith, nat_tests)
 
+-- after a load
 load_ended : (s : State) (i : ℕ) (b : Bool) (v j : ℕ) (scan : Bool) (m : ℕ)
     → Allowed s i (Looks (Load v j scan)) → i < s.shape.callers → Safe s → Chained s → Ended s m
     → Ended (after s i b (Looks (Load v j scan))) m
@@ -38,6 +40,7 @@ load_ended s i b v j scan m may is safe chain g = record {
       (λ was. g.later lt win o k w was live same later) same later;
 }
 
+-- after a look
 pub look_ended : (s : State) (i : ℕ) (b : Bool) (l : Look) (m : ℕ) → Allowed s i (Looks l)
     → i < s.shape.callers → Safe s → Chained s → Ended s m → Ended (after s i b (Looks l)) m
 look_ended s i b (Load v j scan) m may is safe chain g =
@@ -45,6 +48,7 @@ look_ended s i b (Load v j scan) m may is safe chain g =
 look_ended s i b (Miss v) m may is safe chain g = g
 look_ended s i b (LetGo v stays) m may is safe chain g = g
 
+-- after a build
 pub build_ended : (s : State) (i : ℕ) (b : Bool) (u : Build) (m : ℕ) → Allowed s i (Builds u)
     → i < s.shape.callers
     → Safe s
@@ -52,6 +56,7 @@ pub build_ended : (s : State) (i : ℕ) (b : Bool) (u : Build) (m : ℕ) → All
     → Ended s m → Ended (after s i b (Builds u)) m
 build_ended s i b u m may is safe mask g = grind (arith, nat_tests)
 
+-- after a shift
 pub shift_ended : (s : State) (i : ℕ) (b : Bool) (f : Shift) (m : ℕ) → Allowed s i (Shifts f)
     → Safe s
     → Timely s m

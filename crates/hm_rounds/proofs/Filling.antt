@@ -12,6 +12,7 @@ use Rattle.hm_rounds.specs.After.{after}
 use Rattle.hm_rounds.specs.Allowed.{Allowed}
 use Rattle.hm_rounds.specs.Rule.{Safe, Filled}
 
+-- after a build
 pub build_filled : (s : State) (i : ℕ) (b : Bool) (u : Build) → Allowed s i (Builds u)
     → i < s.shape.callers
     → Safe s
@@ -25,11 +26,13 @@ freed_made : (free : Bool) (room freed filled made : ℕ) → filled ≤ room
 freed_made true room freed filled made few h = omega arith
 freed_made false room freed filled made few h = h
 
+-- nothing is filled of a region that is freed
 freed_filled : (free : Bool) (room filled : ℕ) → filled ≤ room
     → (if free then 0 else filled) ≤ room
 freed_filled true room filled few = omega arith
 freed_filled false room filled few = few
 
+-- what is used after regions were freed was used before
 freed_used : (used free : Bool) → (used && not free) ≡ true → used ≡ true
 freed_used used free e = grind arith
 
@@ -43,6 +46,7 @@ free_filled s i g = record {
   ranked = λ v used. g.ranked v (freed_used (s.uses.used v) (frees s i (s.shape.region v)) used);
 }
 
+-- after a shift
 pub shift_filled : (s : State) (i : ℕ) (b : Bool) (f : Shift) → Filled s
     → Filled (after s i b (Shifts f))
 shift_filled s i b (LoadRoles q) g = g

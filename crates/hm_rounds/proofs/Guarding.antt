@@ -8,14 +8,17 @@ use Rattle.hm_rounds.specs.After.{after}
 use Rattle.hm_rounds.specs.Allowed.{MayLook, MayMove, Allowed}
 use Rattle.hm_rounds.specs.Rule.{Warned, Timely, Tied, Safe, Drafted, Cleaned, Guarded}
 
+-- after a load of the stage
 stage_guarded : (s : State) (i : ℕ) (b : Bool) → Guarded s
     → Guarded (after s i b (Ticks LoadStage))
 stage_guarded s i b g = grind (arith, nat_tests)
 
+-- after a load of a reply
 known_guarded : (s : State) (i : ℕ) (b : Bool) (q : ℕ) → Guarded s
     → Guarded (after s i b (Ticks (LoadReply q)))
 known_guarded s i b q g = grind (arith, nat_tests)
 
+-- after a reply
 reply_guarded : (s : State) (i : ℕ) (b : Bool) (a : Reply)
     → Allowed s i (Ticks (StoreReply a)) → i < s.shape.callers → Timely s i → Guarded s
     → Guarded (after s i b (Ticks (StoreReply a)))
@@ -45,6 +48,7 @@ second_named s i v j now may own safe g used kept lt some old = grind (arith, na
 unreplied : (s : State) (m : ℕ) → Timely s m → s.clock.replied m ≢ s.clock.number + 1
 unreplied s m t = grind (arith, nat_tests)
 
+-- after a move to Second
 second_guarded : (s : State) (i : ℕ) (b : Bool) → Allowed s i (Ticks (MoveStage Second))
     → ((q : ℕ) → Timely s q) → Safe s → ((q : ℕ) → Cleaned s q)
     → Guarded (after s i b (Ticks (MoveStage Second)))
@@ -64,6 +68,7 @@ second_guarded s i b may times safe g = record {
       };
 }
 
+-- after a tick
 pub tick_guarded : (s : State) (i : ℕ) (b : Bool) (t : Tick) → Allowed s i (Ticks t)
     → ((q : ℕ) → Timely s q) → Safe s → ((q : ℕ) → Cleaned s q) → i < s.shape.callers → Timely s i
     → Guarded s → Guarded (after s i b (Ticks t))
@@ -94,10 +99,12 @@ look_warned s i b l w = record {
   not_clean = w.not_clean;
 }
 
+-- what may be looked into is used
 looked_used : (s : State) (i v : ℕ) → i < s.shape.callers → MayLook s i v → Safe s
     → s.uses.used v ≡ true
 looked_used s i v is may safe = grind (arith, nat_tests)
 
+-- and where it is From it is held
 looked_from : (s : State) (i v : ℕ) → MayLook s i v → s.roles (s.shape.region v) ≡ From
     → s.hands.held i v ≡ true
 looked_from s i v may e = grind (arith, nat_tests)
@@ -133,6 +140,7 @@ load_either : (s : State) (i : ℕ) (b : Bool) (v j : ℕ) (scan : Bool) (m w : 
     → (s.hands.held m w ≡ true) ⊎ ((w ≡ s.versions.word v j) × (s.versions.word v j ≢ 0))
 load_either s i b v j scan m w h = grind (arith, nat_tests)
 
+-- after a failed exchange
 miss_either : (s : State) (i : ℕ) (b : Bool) (v : ℕ) (m w : ℕ)
     → (after s i b (Looks (Miss v))).hands.held m w ≡ true
     → (s.hands.held m w ≡ true) ⊎ ((w ≡ s.versions.word v 0) × (s.versions.word v 0 ≢ 0))
@@ -150,6 +158,7 @@ found_guarded s i v j m w is may lt safe g second below old = ⊎_elim
     found_before s i v j is may lt safe g second h.1
     (ap (λ (x : ℕ). s.roles (s.shape.region x)) (sym h.0) ∙ old))
 
+-- after a load
 load_guarded : (s : State) (i : ℕ) (b : Bool) (v j : ℕ) (scan : Bool)
     → Allowed s i (Looks (Load v j scan)) → i < s.shape.callers → Safe s → Guarded s
     → Guarded (after s i b (Looks (Load v j scan)))
@@ -161,6 +170,7 @@ load_guarded s i b v j scan may is safe g = record {
       look_warned s i b (Load v j scan) (g.named second w k used kept lt some old);
 }
 
+-- after a failed exchange
 miss_guarded : (s : State) (i : ℕ) (b : Bool) (v : ℕ) → Allowed s i (Looks (Miss v))
     → i < s.shape.callers → Safe s → Guarded s → Guarded (after s i b (Looks (Miss v)))
 miss_guarded s i b v may is safe g = record {
@@ -171,36 +181,44 @@ miss_guarded s i b v may is safe g = record {
       look_warned s i b (Miss v) (g.named second w k used kept lt some old);
 }
 
+-- after a version is let go
 let_go_guarded : (s : State) (i : ℕ) (b : Bool) (v : ℕ) (stays : Bool) → Guarded s
     → Guarded (after s i b (Looks (LetGo v stays)))
 let_go_guarded s i b v stays g = grind (arith, nat_tests)
 
+-- after a look
 pub look_guarded : (s : State) (i : ℕ) (b : Bool) (l : Look) → Allowed s i (Looks l)
     → i < s.shape.callers → Safe s → Guarded s → Guarded (after s i b (Looks l))
 look_guarded s i b (Load v j scan) may is safe g = load_guarded s i b v j scan may is safe g
 look_guarded s i b (Miss v) may is safe g = miss_guarded s i b v may is safe g
 look_guarded s i b (LetGo v stays) may is safe g = let_go_guarded s i b v stays g
 
+-- after a build
 pub build_guarded : (s : State) (i : ℕ) (b : Bool) (u : Build) → Allowed s i (Builds u)
     → i < s.shape.callers → Safe s → Drafted s i → Guarded s → Guarded (after s i b (Builds u))
 build_guarded s i b u may is safe draft g = grind (arith, nat_tests)
 
+-- after a load of roles
 roles_guarded : (s : State) (i : ℕ) (b : Bool) (q : ℕ) → i < s.shape.callers → Timely s i
     → Guarded s → Guarded (after s i b (Shifts (LoadRoles q)))
 roles_guarded s i b q is own g = grind (arith, nat_tests)
 
+-- after a join
 join_guarded : (s : State) (i : ℕ) (b : Bool) (r n : ℕ) → Allowed s i (Shifts (TakeJoin r n))
     → i < s.shape.callers → Tied s i → Guarded s → Guarded (after s i b (Shifts (TakeJoin r n)))
 join_guarded s i b r n may is ties g = grind (arith, nat_tests)
 
+-- after a turn
 turn_guarded : (s : State) (i : ℕ) (b : Bool) (r n : ℕ) → Allowed s i (Shifts (Turn r n))
     → Safe s → Guarded s → Guarded (after s i b (Shifts (Turn r n)))
 turn_guarded s i b r n may safe g = grind (arith, nat_tests)
 
+-- after a reuse
 reuse_guarded : (s : State) (i : ℕ) (b : Bool) → Allowed s i (Shifts Reuse)
     → i < s.shape.callers → Timely s i → Tied s i → Guarded s → Guarded (after s i b (Shifts Reuse))
 reuse_guarded s i b may is own ties g = grind (arith, nat_tests)
 
+-- after a shift
 pub shift_guarded : (s : State) (i : ℕ) (b : Bool) (f : Shift) → Allowed s i (Shifts f)
     → i < s.shape.callers → Timely s i → Tied s i → Safe s → Guarded s
     → Guarded (after s i b (Shifts f))

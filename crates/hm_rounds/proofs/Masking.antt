@@ -7,6 +7,7 @@ use Rattle.hm_rounds.specs.After.{after}
 use Rattle.hm_rounds.specs.Allowed.{Allowed}
 use Rattle.hm_rounds.specs.Rule.{Timely, Tied, Awaited, Masked}
 
+-- after a tick
 pub tick_masked : (s : State) (i : ℕ) (b : Bool) (t : Tick) (m : ℕ) → Allowed s i (Ticks t)
     → Timely s m
     → Timely s i
@@ -16,6 +17,7 @@ pub tick_masked : (s : State) (i : ℕ) (b : Bool) (t : Tick) (m : ℕ) → Allo
     → Masked s m → Masked (after s i b (Ticks t)) m
 tick_masked s i b t m may time own ties tie wait g = grind (arith, nat_tests)
 
+-- after a shift
 pub shift_masked : (s : State) (i : ℕ) (b : Bool) (f : Shift) (m : ℕ) → Allowed s i (Shifts f)
     → Timely s m
     → i < s.shape.callers

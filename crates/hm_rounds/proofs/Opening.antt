@@ -3,7 +3,7 @@ use Rattle.std.proofs.Common.{ℕ, arith}
 use Rattle.std.proofs.lemmas.Bool.Decides.{nat_tests}
 use Rattle.hm_rounds.specs.State.{State}
 use Rattle.hm_rounds.specs.Runs.{IsOpening}
-use Rattle.hm_rounds.specs.Rule.{Counted, Timely, Tied, Awaited, Masked, Passed, Ended, TrulyBare, Safe, Drafted, Chained, Cleaned, Guarded, Stored, Freed, Filled, Good}
+use Rattle.hm_rounds.specs.Rule.{Counted, Timely, Tied, Awaited, Masked, Passed, Ended, TrulyBare, Safe, Drafted, Chained, Cleaned, Guarded, Stored, FreedInTime, Filled, Good}
 
 module _ (s : State) (o : IsOpening s) where
   opening_counted : Counted s
@@ -45,7 +45,7 @@ module _ (s : State) (o : IsOpening s) where
   opening_stored : Stored s
   opening_stored = grind (arith, nat_tests)
 
-  opening_freed : Freed s
+  opening_freed : FreedInTime s
   opening_freed = grind (arith, nat_tests)
 
   opening_filled : Filled s

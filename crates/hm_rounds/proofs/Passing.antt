@@ -11,6 +11,7 @@ use Rattle.hm_rounds.specs.After.{after}
 use Rattle.hm_rounds.specs.Allowed.{Allowed}
 use Rattle.hm_rounds.specs.Rule.{Timely, Tied, Awaited, Masked, Passed, Safe}
 
+-- after a tick
 pub tick_passed : (s : State) (i : ℕ) (b : Bool) (t : Tick) (m : ℕ) → Allowed s i (Ticks t)
     → Timely s m
     → Timely s i
@@ -20,12 +21,14 @@ pub tick_passed : (s : State) (i : ℕ) (b : Bool) (t : Tick) (m : ℕ) → Allo
     → Passed s m → Passed (after s i b (Ticks t)) m
 tick_passed s i b t m may time own ties tie wait g = grind (arith, nat_tests)
 
+-- after a look
 pub look_passed : (s : State) (i : ℕ) (b : Bool) (l : Look) (m : ℕ) → Allowed s i (Looks l)
     → i < s.shape.callers
     → Safe s
     → Passed s m → Passed (after s i b (Looks l)) m
 look_passed s i b l m may is safe g = grind (arith, nat_tests)
 
+-- after a build
 pub build_passed : (s : State) (i : ℕ) (b : Bool) (u : Build) (m : ℕ) → Allowed s i (Builds u)
     → Safe s
     → i < s.shape.callers
@@ -46,6 +49,7 @@ roles_were : (s : State) (i : ℕ) (b : Bool) (q m w k : ℕ)
     → (s.scan.passed m w k ≡ true) × (i ≡ m → is_scanning s.clock i ≡ false)
 roles_were s i b q m w k p = grind (arith, nat_tests)
 
+-- after a load of roles
 roles_passed : (s : State) (i : ℕ) (b : Bool) (q : ℕ) (m : ℕ) → Safe s → Timely s m
     → Masked s m → Passed s m → Passed (after s i b (Shifts (LoadRoles q))) m
 roles_passed s i b q m safe time mask g = record {
@@ -56,20 +60,24 @@ roles_passed s i b q m safe time mask g = record {
       ∙ g.kept lt win w k mine was.0 some;
 }
 
+-- after a join
 join_passed : (s : State) (i : ℕ) (b : Bool) (r n : ℕ) (m : ℕ)
     → Allowed s i (Shifts (TakeJoin r n)) → i < s.shape.callers → Tied s i → Awaited s m
     → Passed s m → Passed (after s i b (Shifts (TakeJoin r n))) m
 join_passed s i b r n m may is ties wait g = grind (arith, nat_tests)
 
+-- after a turn
 turn_passed : (s : State) (i : ℕ) (b : Bool) (r n : ℕ) (m : ℕ) → Allowed s i (Shifts (Turn r n))
     → Safe s → Passed s m → Passed (after s i b (Shifts (Turn r n))) m
 turn_passed s i b r n m may safe g = grind (arith, nat_tests)
 
+-- after a reuse
 reuse_passed : (s : State) (i : ℕ) (b : Bool) (m : ℕ) → Allowed s i (Shifts Reuse)
     → i < s.shape.callers → Timely s i → Tied s i → Passed s m
     → Passed (after s i b (Shifts Reuse)) m
 reuse_passed s i b m may is own ties g = grind (arith, nat_tests)
 
+-- after a shift
 pub shift_passed : (s : State) (i : ℕ) (b : Bool) (f : Shift) (m : ℕ) → Allowed s i (Shifts f)
     → Safe s → Timely s m → Masked s m → i < s.shape.callers → Tied s i → Awaited s m → Timely s i
     → Passed s m → Passed (after s i b (Shifts f)) m

@@ -1,6 +1,8 @@
 -- What follows from the rule at every moment.
 use Rattle.std.proofs.Common.{◌≡◌, ◌≢◌, ℕ, ◌<◌, ◌≤◌, Bool, true, false, arith}
 use Rattle.std.proofs.lemmas.Bool.Decides.{nat_tests}
+use Rattle.std.proofs.Common.{◌+◌, ◌*◌}
+use Rattle.std.proofs.lemmas.Nat.{mul-le}
 use Rattle.hm_rounds.specs.Phases.{First, Second, Free, From}
 use Rattle.hm_rounds.specs.State.{State}
 use Rattle.hm_rounds.specs.Views.{masks_count, known_from, Live, IsDead}
@@ -10,7 +12,7 @@ use Rattle.hm_rounds.specs.Allowed.{Allowed}
 use Rattle.hm_rounds.specs.Rule.{Warned, Timely, Good}
 use Rattle.hm_rounds.specs.Runs.{IsMoment, after_steps}
 use Rattle.hm_rounds.specs.Reach.{Reached, by_caller, by_version, InHolding, held, named, IsReusable}
-use Rattle.hm_rounds.specs.Rounds.{IsNextStage, EndsCycle, IsFreed, ScansRight}
+use Rattle.hm_rounds.specs.Rounds.{IsNextStage, EndsCycle, MayFree, ScansRight}
 use Rattle.hm_rounds.proofs.Opening.{opening_good}
 use Rattle.hm_rounds.proofs.Steps.{good_run}
 
@@ -37,11 +39,11 @@ live_used s i b step v g live =
 
 -- a region that a step frees was given up by the caller in an earlier cycle
 pub step_frees : (s : State) (i : ℕ) (b : Bool) (step : Step) (x : ℕ) → Allowed s i step
-    → s.roles x ≢ Free → (after s i b step).roles x ≡ Free → IsFreed s i x
+    → s.roles x ≢ Free → (after s i b step).roles x ≡ Free → MayFree s i x
 step_frees s i b step x may was now = grind (arith, nat_tests)
 
 -- it is dead then
-pub freed_dead : (s : State) (i x : ℕ) → Good s → IsFreed s i x
+pub freed_dead : (s : State) (i x : ℕ) → Good s → MayFree s i x
     → IsDead (s.roles x) (s.ties.done i) s.clock.done
 freed_dead s i x g freed = let time = g.timely i in grind (arith, nat_tests)
 
@@ -80,17 +82,20 @@ holding_warned s i v g second lt (held w h) old = g.guarded.held second i w lt h
 holding_warned s i v g second lt (named w j mine below some) old =
     g.guarded.named second w j mine.is_used mine.is_kept below some old
 
+-- a caller whose masks count has seen the present done count
 scan_seen : (s : State) (i : ℕ) → Good s → i < s.shape.callers → masks_count s.clock i ≡ true
     → s.clock.seen_done i ≡ s.clock.done
 scan_seen s i g lt count =
     let time = g.timely i in
     let tie = g.tied i in let wait = g.awaited i in let free = g.freed in grind (arith, nat_tests)
 
+-- and all have joined with it
 scan_joined : (s : State) (i q : ℕ) → Good s → i < s.shape.callers
     → masks_count s.clock i ≡ true → q < s.shape.callers → s.ties.done q ≡ s.clock.done
 scan_joined s i q g lt count below =
     let tie = g.tied q in let wait = g.awaited i in grind (arith, nat_tests)
 
+-- and what it knows as From is From
 scan_from : (s : State) (i v : ℕ) → Good s → i < s.shape.callers → masks_count s.clock i ≡ true
     → known_from s.shape s.masks i v ≡ true → s.roles (s.shape.region v) ≡ From
 scan_from s i v g lt count known = let mask = g.masked i in grind (arith, nat_tests)
@@ -102,6 +107,7 @@ scan_bare s i v g lt count bare (held w h) = (g.bare i lt count bare).held w h
 scan_bare s i v g lt count bare (named w j mine below some) =
     (g.bare i lt count bare).named w j mine below some
 
+-- such a caller can rely on its scan
 pub scan_right : (s : State) (i : ℕ) → Good s → i < s.shape.callers → masks_count s.clock i ≡ true
     → ScansRight s i
 scan_right s i g lt count = record {
@@ -112,3 +118,13 @@ scan_right s i g lt count = record {
   ends = λ o k v found live same later. (g.ended i).later lt count o k v found live same later;
   bare = λ bare v has. scan_bare s i v g lt count bare has;
 }
+
+-- so many versions were ever published in a region
+pub made_most : (s : State) (x : ℕ) → Good s → s.uses.made x ≤ s.shape.places * (s.clock.done + 1)
+made_most s x g =
+    let q : ℕ = s.shape.owner x in
+    let seen : s.clock.seen_done q ≤ s.clock.done = (g.timely q).seen_done in
+    let freed : s.uses.freed x ≤ s.clock.done = omega (arith, g.freed.freed x) in
+    let most : s.shape.places * s.uses.freed x ≤ s.shape.places * s.clock.done =
+    mul-le s.shape.places (s.uses.freed x) s.shape.places s.clock.done (omega arith) freed in
+    omega (arith, most, g.filled.made x, g.filled.filled x)

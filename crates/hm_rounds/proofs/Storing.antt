@@ -12,19 +12,23 @@ use Rattle.hm_rounds.specs.After.{after}
 use Rattle.hm_rounds.specs.Allowed.{Allowed}
 use Rattle.hm_rounds.specs.Rule.{Timely, Tied, Safe, Drafted, Chained, Stored}
 
+-- after a tick
 pub tick_stored : (s : State) (i : ℕ) (b : Bool) (t : Tick) → Allowed s i (Ticks t)
     → Stored s → Stored (after s i b (Ticks t))
 tick_stored s i b t may g = grind (arith, nat_tests)
 
+-- after a field is written
 write_stored : (s : State) (i : ℕ) (b : Bool) (j u : ℕ) → Allowed s i (Builds (Write j u))
     → Safe s → Stored s → Stored (after s i b (Builds (Write j u)))
 write_stored s i b j u may safe g = grind (arith, nat_tests)
 
+-- after an object is made
 create_stored : (s : State) (i : ℕ) (b : Bool) (o n : ℕ) → Allowed s i (Builds (Create o n))
     → i < s.shape.callers → Safe s → Drafted s i → Stored s
     → Stored (after s i b (Builds (Create o n)))
 create_stored s i b o n may is safe draft g = grind (arith, nat_tests)
 
+-- after a field is shortened
 shorten_stored : (s : State) (i : ℕ) (b : Bool) (v j u : ℕ)
     → Allowed s i (Builds (Shorten v j u)) → i < s.shape.callers → Safe s → Stored s
     → Stored (after s i b (Builds (Shorten v j u)))
@@ -59,12 +63,14 @@ hang_old s i b copy v n w j is may safe g live last other apart pos lt =
     (λ some. safe.named w j live lt some) in
     let e = g.refs w j live last pos lt in grind (arith, nat_tests)
 
+-- after a version is hung
 hang_cases : (s : State) (i : ℕ) (b copy : Bool) (v n w : ℕ) → MayHang s i v
     → Live (hung s i b v n copy) w → (hung s i b v n copy).versions.word w 0 ≡ 0
     → (w ≡ s.hands.next i)
     ⊎ ((w ≢ s.hands.next i) × (w ≢ v) × (s.versions.word w 0 ≡ 0) × Live s w)
 hang_cases s i b copy v n w may live last = grind (arith, nat_tests)
 
+-- after a version is hung
 hang_refs : (s : State) (i : ℕ) (b copy : Bool) (v n w j : ℕ) → i < s.shape.callers → MayHang s i v
     → (copy ≡ true → IsCopy s i v) → Safe s → Drafted s i → Chained s → Stored s
     → Live (hung s i b v n copy) w → (hung s i b v n copy).versions.word w 0 ≡ 0
@@ -78,12 +84,14 @@ hang_refs s i b copy v n w j is may same safe draft chain g live last pos lt = �
     hang_old s i b copy v n w j is may safe g x.3 x.2 x.0 apart pos lt)
     (hang_cases s i b copy v n w may live last)
 
+-- after a version is hung
 hang_rest : (s : State) (i : ℕ) (b copy : Bool) (v n w : ℕ) → i < s.shape.callers → MayHang s i v
     → Safe s → Stored s → (hung s i b v n copy).uses.used w ≡ true
     → ((hung s i b v n copy).store.has ((hung s i b v n copy).versions.object w) ≡ true)
     × ((hung s i b v n copy).versions.object w ≢ 0)
 hang_rest s i b copy v n w is may safe g used = grind (arith, nat_tests)
 
+-- after a version is hung
 hang_stored : (s : State) (i : ℕ) (b : Bool) (v n : ℕ) (copy : Bool)
     → Allowed s i (Builds (Hang v n copy)) → i < s.shape.callers → Safe s → Drafted s i
     → Chained s → Stored s → Stored (hung s i b v n copy)
@@ -94,6 +102,7 @@ hang_stored s i b v n copy may is safe draft chain g = record {
       hang_refs s i b copy v n w j is may.0 may.1 safe draft chain g live last pos lt;
 }
 
+-- after a build
 pub build_stored : (s : State) (i : ℕ) (b : Bool) (u : Build) → Allowed s i (Builds u) → Safe s
     → i < s.shape.callers → Drafted s i → Chained s → Stored s → Stored (after s i b (Builds u))
 build_stored s i b (Write j u) may safe is draft chain g = write_stored s i b j u may safe g
@@ -104,6 +113,7 @@ build_stored s i b (Hang v n copy) may safe is draft chain g =
 build_stored s i b (Shorten v j u) may safe is draft chain g =
     shorten_stored s i b v j u may is safe g
 
+-- after a shift
 pub shift_stored : (s : State) (i : ℕ) (b : Bool) (f : Shift) → Allowed s i (Shifts f)
     → i < s.shape.callers
     → Tied s i

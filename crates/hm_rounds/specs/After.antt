@@ -6,25 +6,25 @@ use Rattle.hm_rounds.specs.Phases.{Role}
 use Rattle.hm_rounds.specs.Clocks.{ticked, tied}
 use Rattle.hm_rounds.specs.Regions.{masked, shifted, with_next, without_freed}
 use Rattle.hm_rounds.specs.Objects.{built, entered}
-use Rattle.hm_rounds.specs.Marks.{replied, looked, shortened, rescanned}
-use Rattle.hm_rounds.specs.Drafts.{found, drafted, taken}
+use Rattle.hm_rounds.specs.Marks.{unmarked, looked, shortened, rescanned}
+use Rattle.hm_rounds.specs.Drafts.{found, drafted, redrafted}
 
 -- ticks alone change the clock
 abbrev pub clock_after : State → ℕ → Step → Clock
 clock_after state caller (Ticks tick) = ticked state.clock caller tick
 clock_after state caller _ = state.clock
 
--- shifts alone change ties
+-- shifts alone change ties, masks and roles: this is for ties
 abbrev pub ties_after : State → ℕ → Step → Ties
 ties_after state caller (Shifts shift) = tied state caller shift
 ties_after state caller _ = state.ties
 
--- and masks
+-- this for masks
 abbrev pub masks_after : State → ℕ → Step → Masks
 masks_after state caller (Shifts shift) = masked state caller shift
 masks_after state caller _ = state.masks
 
--- and roles
+-- and this for roles
 abbrev pub roles_after : State → ℕ → Step → ℕ → Role
 roles_after state caller (Shifts shift) = shifted state caller shift
 roles_after state caller _ = state.roles
@@ -37,19 +37,19 @@ uses_after state caller (Shifts (TakeJoin region next)) = without_freed state ca
 uses_after state caller (Shifts Reuse) = without_freed state caller
 uses_after state caller _ = state.uses
 
--- builds alone change versions
+-- builds alone change versions and the plain store: this is for versions
 abbrev pub versions_after : State → ℕ → Step → Versions
 versions_after state caller (Builds build) = built state caller build
 versions_after state caller _ = state.versions
 
--- and the plain store
+-- and this for the store
 abbrev pub store_after : State → ℕ → Step → Store
 store_after state caller (Builds build) = entered state caller build
 store_after state caller _ = state.store
 
 -- each group may change its caller's scan
 abbrev pub scan_after : State → ℕ → Step → Scan
-scan_after state caller (Ticks tick) = replied state caller tick
+scan_after state caller (Ticks tick) = unmarked state caller tick
 scan_after state caller (Looks look) = looked state caller look
 scan_after state caller (Builds build) = shortened state caller build
 scan_after state caller (Shifts shift) = rescanned state caller shift
@@ -59,7 +59,7 @@ abbrev pub hands_after : State → ℕ → Step → Hands
 hands_after state caller (Ticks tick) = state.hands
 hands_after state caller (Looks look) = found state caller look
 hands_after state caller (Builds build) = drafted state caller build
-hands_after state caller (Shifts shift) = taken state caller shift
+hands_after state caller (Shifts shift) = redrafted state caller shift
 
 -- the state after a step of a caller, which is then said to be bare or not
 abbrev pub after : State → ℕ → Bool → Step → State

@@ -10,7 +10,7 @@ abbrev pub AllReplied : State → ℕ → Type 0
 AllReplied state caller = (other : ℕ) → other < state.shape.callers
     → state.clock.known caller other ≡ state.clock.seen caller
 
--- and each is Clean
+-- each reply that it knows is Clean
 abbrev pub AllClean : State → ℕ → Type 0
 AllClean state caller = (other : ℕ) → other < state.shape.callers
     → state.clock.known_reply caller other ≡ Clean
@@ -45,7 +45,8 @@ MayReply state caller Second Clean = state.scan.mark caller ≡ false
 MayReply state caller Second Dirty = Unit {0}
 MayReply state caller _ _ = ⊥
 
--- a caller may take a tick
+-- a caller may load the stage and replies; it may move the present stage alone, and reply once to a
+-- stage
 abbrev pub TickAllowed : State → ℕ → Tick → Type 0
 TickAllowed state caller LoadStage = Unit {0}
 TickAllowed state caller (MoveStage to) = (state.clock.seen caller ≡ state.clock.number)
@@ -58,7 +59,7 @@ TickAllowed state caller (StoreReply reply) = (state.clock.replied caller < stat
 abbrev pub MayLook : State → ℕ → ℕ → Type 0
 MayLook state caller version = (state.hands.held caller version ≡ true) ⊎ Mine state caller version
 
--- a caller may look
+-- a caller may load a field of such a version, or fail to exchange its link; it may let any go
 abbrev pub LookAllowed : State → ℕ → Look → Type 0
 LookAllowed state caller (Load version field by_scan) =
     MayLook state caller version × (field < state.shape.fields)
@@ -116,7 +117,7 @@ pub record MayShorten (state : State) (caller version field target : ℕ) : Type
       ≡ state.versions.object (state.versions.word version field)
   pub later : state.versions.rank (state.versions.word version field) < state.versions.rank target
 
--- a caller may build
+-- a caller may build by what each kind needs; a copy names the same objects besides
 abbrev pub BuildAllowed : State → ℕ → Build → Type 0
 BuildAllowed state caller (Write field target) = MayWrite state caller field target
 BuildAllowed state caller (Create object next) = MayCreate state caller object
@@ -138,14 +139,15 @@ pub record MayTurn (state : State) (caller region : ℕ) : Type 0 where
   pub owner : state.shape.owner region ≡ caller
   pub empty : state.roles region ≡ Free
 
--- a caller may take a shift; it may reuse regions once more cycles are done than when it joined
+-- a caller may load roles at any time, and reuse regions once it has seen more cycles done than
+-- when it joined
 abbrev pub ShiftAllowed : State → ℕ → Shift → Type 0
 ShiftAllowed state caller (LoadRoles owner) = Unit {0}
 ShiftAllowed state caller (TakeJoin region next) = MayJoin state caller region
 ShiftAllowed state caller (Turn region next) = MayTurn state caller region
 ShiftAllowed state caller Reuse = state.ties.done caller < state.clock.seen_done caller
 
--- a caller may take a step
+-- a caller may take a step, of any group
 abbrev pub Allowed : State → ℕ → Step → Type 0
 Allowed state caller (Ticks tick) = TickAllowed state caller tick
 Allowed state caller (Looks look) = LookAllowed state caller look

@@ -59,8 +59,8 @@ pub record ShowStore (shape : Shape) (done : ℕ) (ties : Ties) (roles : ℕ →
 
 -- a region was freed at most as often as its owner has seen a cycle done, and a From region at most
 -- as often as that was when its owner joined
-pub record AreFreed (shape : Shape) (clock : Clock) (ties : Ties) (roles : ℕ → Role) (uses : Uses)
-    : Type 0 where
+pub record AreFreedInTime (shape : Shape) (clock : Clock) (ties : Ties) (roles : ℕ → Role)
+    (uses : Uses) : Type 0 where
   pub joined : (caller : ℕ) → ties.done caller ≤ clock.seen_done caller
   pub behind : (caller : ℕ) → caller < shape.callers → clock.done ≤ clock.seen_done caller + 1
   pub freed : (region : ℕ) → uses.freed region ≤ clock.seen_done (shape.owner region)

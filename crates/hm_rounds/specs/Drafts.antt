@@ -41,8 +41,8 @@ drafted state caller (Hang version next copy) =
 drafted state caller (Shorten version field target) = state.hands
 
 -- a region that is taken has the caller's next version
-abbrev pub taken : State → ℕ → Shift → Hands
-taken state caller (LoadRoles owner) = state.hands
-taken state caller (TakeJoin region next) = with_draft state.hands caller next
-taken state caller (Turn region next) = with_draft state.hands caller next
-taken state caller Reuse = state.hands
+abbrev pub redrafted : State → ℕ → Shift → Hands
+redrafted state caller (LoadRoles owner) = state.hands
+redrafted state caller (TakeJoin region next) = with_draft state.hands caller next
+redrafted state caller (Turn region next) = with_draft state.hands caller next
+redrafted state caller Reuse = state.hands

@@ -6,20 +6,21 @@ use Rattle.hm_rounds.specs.Views.{known_from, is_scanning}
 use Rattle.hm_rounds.specs.Steps.{Tick, StoreReply, Look, Load, Miss, LetGo, Build, Shorten, Shift, LoadRoles, TakeJoin, Turn, Reuse}
 
 -- a reply in First takes the mark away
-abbrev pub replied : State → ℕ → Tick → Scan
-replied state caller (StoreReply reply) = record (state.scan) {
+abbrev pub unmarked : State → ℕ → Tick → Scan
+unmarked state caller (StoreReply reply) = record (state.scan) {
   mark = put state.scan.mark caller
       (state.scan.mark caller && not (is_first (state.clock.seen_phase caller)));
 }
-replied state caller _ = state.scan
+unmarked state caller _ = state.scan
 
 -- a word names a version that the caller knows as From
 abbrev pub meets_from : State → ℕ → ℕ → Bool
 meets_from state caller word =
     not (word == 0) && known_from state.shape state.masks caller word
 
--- a version known as From sets the mark where it is met outside of a scan; a scan passes each other
--- word that it loads; and a link of 0 is an end
+-- a version known as From sets the mark where it is met outside of a scan, also by a failed
+-- exchange: a caller that joins late may have hung it on one that is kept. A scan passes each other
+-- word that it loads, and a link of 0 is an end
 abbrev pub looked : State → ℕ → Look → Scan
 looked state caller (Load version field by_scan) = record {
   mark = put state.scan.mark caller (state.scan.mark caller

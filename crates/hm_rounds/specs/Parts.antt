@@ -25,7 +25,7 @@ pub record Part : Type 0 where
   pub written : ℕ → Bool
   pub bare : Bool
 
--- this is a caller's part
+-- the part of a caller of a state
 abbrev pub part_of : State → ℕ → Part
 part_of state caller = record {
   seen = state.clock.seen caller;
@@ -68,7 +68,7 @@ SaysSame before now (RolesWord owner) = (region : ℕ) → before.shape.owner re
 SaysSame before now (FieldWord version field) =
     now.versions.word version field ≡ before.versions.word version field
 
--- a step is on one word; letting go is on none, and stands here with the stage, which it leaves
+-- a step is on one word; letting go is on none, and is said here to be on the stage, which stays
 abbrev pub word_of : State → ℕ → Step → Word
 word_of state caller (Ticks LoadStage) = StageWord
 word_of state caller (Ticks (MoveStage to)) = StageWord

@@ -20,7 +20,7 @@ phase_place Join = 1
 phase_place First = 2
 phase_place Second = 3
 
--- callers scan in First
+-- a caller scans in First
 abbrev pub is_first : Phase → Bool
 is_first Idle = false
 is_first Join = false
@@ -34,7 +34,7 @@ is_round Join = false
 is_round First = true
 is_round Second = true
 
--- a region is From
+-- a region is in from-space, or dead
 abbrev pub is_from : Role → Bool
 is_from Free = false
 is_from To = false

@@ -10,7 +10,7 @@ abbrev pub HaveReplied : State → Type 0
 HaveReplied state = (caller : ℕ) → caller < state.shape.callers
     → state.clock.replied caller ≡ state.clock.number
 
--- and each reply is Clean
+-- every caller has replied Clean to it
 abbrev pub HaveRepliedClean : State → Type 0
 HaveRepliedClean state = (caller : ℕ) → caller < state.shape.callers
     → (state.clock.replied caller ≡ state.clock.number) × (state.clock.reply caller ≡ Clean)
@@ -35,14 +35,14 @@ pub record EndsCycle (before now : State) : Type 0 where
   pub clean : HaveRepliedClean before
   pub idle : now.clock.phase ≡ Idle
 
--- a caller frees a region: it is a From region of its own, and was given up when fewer cycles were
--- done than the caller has seen done
-pub record IsFreed (state : State) (caller region : ℕ) : Type 0 where
+-- a caller may free a region: it is a From region of its own, and was given up when fewer cycles
+-- were done than the caller has seen done
+pub record MayFree (state : State) (caller region : ℕ) : Type 0 where
   pub owner : state.shape.owner region ≡ caller
   pub from : state.roles region ≡ From
   pub before : state.ties.done caller < state.clock.seen_done caller
 
--- what a caller with all masks can rely on while these count
+-- what a caller can rely on while its masks count
 pub record ScansRight (state : State) (caller : ℕ) : Type 0 where
   -- all have joined in this cycle, which it has seen
   pub seen : state.clock.seen_done caller ≡ state.clock.done

@@ -3,37 +3,36 @@ use Rattle.std.specs.Prelude.{◌≡◌, ℕ, ◌<◌, true}
 use Rattle.hm_rounds.specs.State.{State}
 use Rattle.hm_rounds.specs.Views.{masks_count, Bare}
 use Rattle.hm_rounds.specs.Stages.{IsCounted, KeepsTime, AreTied, IsAwaited, AreMasks}
-use Rattle.hm_rounds.specs.Scans.{HasPassed, HasEnds, IsClean, IsWarned, IsGuarded}
-use Rattle.hm_rounds.specs.Chains.{IsSafe, HasDraft, AreChained, ShowStore, AreFreed, AreFilled}
+use Rattle.hm_rounds.specs.Scans.{HasPassed, HasEnds, HoldsClean, IsWarned, IsGuarded}
+use Rattle.hm_rounds.specs.Chains.{IsSafe, HasDraft, AreChained, ShowStore, AreFreedInTime, AreFilled}
 
--- each record of the rule speaks of some parts of a state. Here each speaks of those of one state:
--- how far the stage has gone
+-- the stage of a state has moved often enough. So each record of the rule is said of a state here
 abbrev pub Counted : State → Type 0
 Counted state = IsCounted state.clock
 
--- what a caller has seen and replied
+-- what a caller knows of the stage is not ahead of it
 abbrev pub Timely : State → ℕ → Type 0
 Timely state caller = KeepsTime state.shape state.clock caller
 
--- when it last joined
+-- a caller is tied to the Join that it joined in
 abbrev pub Tied : State → ℕ → Type 0
 Tied state caller = AreTied state.shape state.clock state.ties state.masks caller
 
--- what waits for it
+-- a caller that scans is awaited
 abbrev pub Awaited : State → ℕ → Type 0
 Awaited state caller = IsAwaited state.shape state.clock state.ties caller
 
--- what its masks say
+-- what a caller's masks say is right
 abbrev pub Masked : State → ℕ → Type 0
 Masked state caller = AreMasks state.shape state.clock state.masks state.roles caller
 
--- what its scan has passed
+-- what a caller's scan has passed is right
 abbrev pub Passed : State → ℕ → Type 0
 Passed state caller =
     HasPassed state.shape state.clock state.masks state.roles state.uses state.versions state.scan
     caller
 
--- which ends it found
+-- the ends that a caller found are right
 abbrev pub Ended : State → ℕ → Type 0
 Ended state caller =
     HasEnds state.shape state.clock state.ties state.masks state.roles state.uses
@@ -44,47 +43,47 @@ abbrev pub TrulyBare : State → ℕ → Type 0
 TrulyBare state caller = caller < state.shape.callers → masks_count state.clock caller ≡ true
     → state.bare caller ≡ true → Bare state caller
 
--- what is in its holding once it has replied
+-- the holding of an unmarked caller is clean after its reply
 abbrev pub Cleaned : State → ℕ → Type 0
 Cleaned state caller =
-    IsClean state.shape state.clock state.scan.mark state.roles state.uses state.versions
+    HoldsClean state.shape state.clock state.scan.mark state.roles state.uses state.versions
     state.hands caller
 
--- that somebody is marked
+-- somebody is marked, and has not replied Clean
 abbrev pub Warned : State → Type 0
 Warned state = IsWarned state.shape state.clock state.scan.mark
 
--- what a holding tells in Second
+-- holdings are guarded by marks in Second
 abbrev pub Guarded : State → Type 0
 Guarded state =
     IsGuarded state.shape state.clock state.scan.mark state.roles state.uses state.versions
     state.hands
 
--- which versions are live
+-- what is held and named is live
 abbrev pub Safe : State → Type 0
 Safe state =
     IsSafe state.shape state.clock.done state.ties state.roles state.uses state.versions state.hands
 
--- what a caller has written
+-- what a caller has written is its own, and names what it holds
 abbrev pub Drafted : State → ℕ → Type 0
 Drafted state caller = HasDraft state.shape state.uses state.versions state.hands caller
 
--- how links chain versions
+-- live versions are chained by links
 abbrev pub Chained : State → Type 0
 Chained state =
     AreChained state.shape state.clock.done state.ties state.roles state.uses state.versions
 
--- what last versions hold
+-- last versions hold what the plain store has
 abbrev pub Stored : State → Type 0
 Stored state =
     ShowStore state.shape state.clock.done state.ties state.roles state.uses state.versions
     state.store
 
--- how often regions were freed
-abbrev pub Freed : State → Type 0
-Freed state = AreFreed state.shape state.clock state.ties state.roles state.uses
+-- regions were freed no more often than cycles were seen done
+abbrev pub FreedInTime : State → Type 0
+FreedInTime state = AreFreedInTime state.shape state.clock state.ties state.roles state.uses
 
--- how many versions there are
+-- regions were filled no more often than they were Free
 abbrev pub Filled : State → Type 0
 Filled state = AreFilled state.shape state.uses state.versions.rank
 
@@ -108,5 +107,5 @@ pub record Good (state : State) : Type 0 where
   pub chained : Chained state
   pub stored : Stored state
   -- how often regions were freed, and how many versions there are
-  pub freed : Freed state
+  pub freed : FreedInTime state
   pub filled : Filled state

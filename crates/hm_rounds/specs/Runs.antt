@@ -1,4 +1,4 @@
--- Openings, lists of steps, and what is reached after them.
+-- Openings, and lists of steps from them.
 use Rattle.std.specs.Prelude.{◌≡◌, ◌≢◌, ℕ, ◌<◌, ◌≤◌, Bool, true, false, List, [], ◌∷◌}
 use Rattle.hm_rounds.specs.Phases.{Idle, To}
 use Rattle.hm_rounds.specs.State.{State}
@@ -14,7 +14,7 @@ pub record Taken : Type 0 where
   pub bare : Bool
   pub step : Step
 
--- a step may be taken
+-- a caller may take a step, and be said to be bare after it or not
 pub record MayTake (state : State) (caller : ℕ) (bare : Bool) (step : Step) : Type 0 where
   pub below : caller < state.shape.callers
   pub allowed : Allowed state caller step
@@ -75,7 +75,7 @@ pub record IsOpening (state : State) : Type 0 where
       × (state.uses.freed region ≡ 0) × (state.uses.made region ≡ state.uses.filled region)
   pub total : (version : ℕ) → state.uses.used version ≡ true → 0 < state.uses.total
 
--- some list of steps leads from an opening to a state
+-- a state is a moment where some list of steps leads to it from an opening
 pub data IsMoment : State → Type 0 where
   after_steps : (start : State) (steps : List Taken) → IsOpening start → MayRun start steps
       → IsMoment (run start steps)

@@ -25,7 +25,7 @@ pub record HasEnds (shape : Shape) (clock : Clock) (ties : Ties) (masks : Masks)
 
 -- a caller that has replied to the present First and is unmarked has no version of a From region in
 -- its holding: what it holds, and what its own versions name
-pub record IsClean (shape : Shape) (clock : Clock) (mark : ℕ → Bool) (roles : ℕ → Role)
+pub record HoldsClean (shape : Shape) (clock : Clock) (mark : ℕ → Bool) (roles : ℕ → Role)
     (uses : Uses) (versions : Versions) (hands : Hands) (caller : ℕ) : Type 0 where
   pub held : clock.phase ≡ First → clock.replied caller ≡ clock.number → mark caller ≡ false
       → (version : ℕ) → hands.held caller version ≡ true → roles (shape.region version) ≢ From

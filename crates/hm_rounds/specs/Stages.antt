@@ -4,7 +4,8 @@ use Rattle.hm_rounds.specs.Phases.{Join, First, Role, From, phase_place, is_roun
 use Rattle.hm_rounds.specs.State.{Shape, Clock, Ties, Masks}
 use Rattle.hm_rounds.specs.Views.{is_scanning, masks_count, AllMasks}
 
--- the stage has gone through all phases of each cycle that is done, and so many more of this one
+-- the stage has moved at least four times for each cycle that is done, and once more for each phase
+-- since then
 pub record IsCounted (clock : Clock) : Type 0 where
   pub number : 4 * clock.done + phase_place clock.phase < clock.number
 

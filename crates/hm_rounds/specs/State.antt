@@ -74,7 +74,7 @@ pub record Hands : Type 0 where
   pub next : ℕ → ℕ
   pub written : ℕ → ℕ → Bool
 
--- a moment of all this; a caller that is said to be bare has nothing that its masks give as From
+-- the state is all of these, and says of some callers that they are bare
 pub record State : Type 0 where
   pub shape : Shape
   pub clock : Clock

@@ -2,7 +2,7 @@
 use Rattle.std.specs.Prelude.{ℕ, Bool}
 use Rattle.hm_rounds.specs.Phases.{Phase, Reply}
 
--- on the stage and on replies
+-- a tick is on the stage, or on a reply
 pub data Tick : Type 0 where
   LoadStage : Tick
   -- the stage is exchanged for the next one, of this phase
@@ -10,7 +10,7 @@ pub data Tick : Type 0 where
   LoadReply : (other : ℕ) → Tick
   StoreReply : (reply : Reply) → Tick
 
--- changing no version
+-- a look changes no version
 pub data Look : Type 0 where
   -- a field of a version is loaded, by a scan or by an object call
   Load : (version field : ℕ) (by_scan : Bool) → Look
@@ -20,7 +20,7 @@ pub data Look : Type 0 where
   -- step before found again stays held
   LetGo : (version : ℕ) (stays : Bool) → Look
 
--- changing a version
+-- a build changes a version
 pub data Build : Type 0 where
   -- a field of the next version is written
   Write : (field target : ℕ) → Build
@@ -31,15 +31,18 @@ pub data Build : Type 0 where
   -- a field of an own version names a later version of the same object
   Shorten : (version field target : ℕ) → Build
 
--- on roles
+-- a shift is on the roles of a caller
 pub data Shift : Type 0 where
+  -- an owner's roles are loaded
   LoadRoles : (owner : ℕ) → Shift
   -- a join, which takes a region as To; the next version lies there
   TakeJoin : (region next : ℕ) → Shift
   -- a turn, which does so between joins
   Turn : (region next : ℕ) → Shift
+  -- what was given up in a cycle that is done is freed
   Reuse : Shift
 
+-- a step is of one of these groups
 pub data Step : Type 0 where
   Ticks : Tick → Step
   Looks : Look → Step

@@ -3,7 +3,7 @@
 use Rattle.std.specs.Prelude.{◌≡◌, ℕ, ◌==◌, nat_lt, true, false, ◌||◌, ◌&&◌, if◌then◌else◌, List, [], ◌∷◌, ◌++◌}
 use Rattle.hm_rounds.specs.Phases.{Idle, Join, First, Second, Free, To, From, Joined, Clean, Dirty}
 use Rattle.hm_rounds.specs.State.{State}
-use Rattle.hm_rounds.specs.Steps.{LoadStage, MoveStage, LoadReply, StoreReply, Load, LetGo, Write, Hang, Shorten, LoadRoles, TakeJoin, Reuse, Step, Ticks, Looks, Builds, Shifts}
+use Rattle.hm_rounds.specs.Steps.{LoadStage, MoveStage, LoadReply, StoreReply, Load, Miss, LetGo, Write, Create, Hang, Shorten, LoadRoles, TakeJoin, Turn, Reuse, Step, Ticks, Looks, Builds, Shifts}
 use Rattle.hm_rounds.specs.Views.{Live}
 use Rattle.hm_rounds.specs.Runs.{Taken}
 use Rattle.hm_rounds.specs.Rounds.{HaveRepliedClean}
@@ -67,6 +67,10 @@ start = record {
 abbrev pub by : ℕ → Step → Taken
 by caller step = record { caller = caller; bare = false; step = step }
 
+-- a caller takes a step that leaves it bare
+abbrev pub clears : ℕ → Step → Taken
+clears caller step = record { caller = caller; bare = true; step = step }
+
 -- a caller loads the replies of both
 abbrev pub loads_replies : ℕ → List Taken
 loads_replies caller =
@@ -86,12 +90,18 @@ one_copies =
     ∷ by 1 (Ticks LoadStage) ∷ by 1 (Shifts (LoadRoles 0)) ∷ by 1 (Shifts (LoadRoles 1))
     ∷ by 1 (Builds (Write 0 0)) ∷ by 1 (Builds (Write 1 1)) ∷ by 1 (Builds (Hang 11 13 true)) ∷ []
 
--- caller 0 copies version 1 as 2, comes from version 11 to 12, and replies Clean
-abbrev pub other_is_clean : List Taken
-other_is_clean =
+-- caller 0 copies version 1 as 2, and comes from version 11 to 12
+abbrev pub other_copies : List Taken
+other_copies =
     by 0 (Builds (Write 0 0)) ∷ by 0 (Builds (Write 1 0)) ∷ by 0 (Builds (Hang 1 3 true))
     ∷ by 0 (Looks (LetGo 1 false)) ∷ by 0 (Looks (Load 11 0 true))
-    ∷ by 0 (Looks (LetGo 11 false)) ∷ by 0 (Ticks (StoreReply Clean)) ∷ []
+    ∷ by 0 (Looks (LetGo 11 false)) ∷ []
+
+-- it scans version 2, is bare, and replies Clean
+abbrev pub other_is_clean : List Taken
+other_is_clean =
+    by 0 (Looks (Load 2 0 true)) ∷ clears 0 (Looks (Load 2 1 true))
+    ∷ by 0 (Ticks (StoreReply Clean)) ∷ []
 
 -- it then reads the reference of version 12, which is not scanned yet: so it holds version 1 again,
 -- and is marked
@@ -135,12 +145,22 @@ both_free =
 
 -- the first round, at whose end both have replied Clean and one is marked
 abbrev pub first_round : List Taken
-first_round = both_join ++ one_copies ++ other_is_clean ++ reads_old_name ++ both_are_clean
+first_round = both_join ++ one_copies ++ other_copies ++ other_is_clean ++ reads_old_name
+    ++ both_are_clean
 
 -- and the whole cycle
 abbrev pub story : List Taken
 story =
     first_round ++ mark_tells ++ scans_again ++ clean_again ++ second_is_clean ++ both_free
+
+-- these kinds of step the story does not have: turns, the making of an object, a store, an exchange
+-- that fails for it, and a restart
+abbrev pub other_kinds : List Taken
+other_kinds =
+    by 0 (Shifts (Turn 3 3)) ∷ by 0 (Builds (Write 1 1)) ∷ by 0 (Builds (Create 3 4))
+    ∷ by 0 (Shifts (Turn 4 4)) ∷ by 0 (Builds (Write 0 0)) ∷ by 0 (Builds (Write 1 0))
+    ∷ by 0 (Builds (Hang 1 5 false)) ∷ by 1 (Looks (Miss 1)) ∷ by 1 (Ticks (MoveStage Join))
+    ∷ by 1 (Ticks (MoveStage Join)) ∷ []
 
 -- one clean round misses a version: all have replied Clean to a First, and a caller still holds a
 -- version of a From region

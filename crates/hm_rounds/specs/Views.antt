@@ -35,13 +35,13 @@ pub record IsMine (caller owner : ℕ) (used kept : Bool) : Type 0 where
   pub is_used : used ≡ true
   pub is_kept : kept ≡ true
 
--- a version is a caller's own
+-- a version is a caller's own, by these roles and uses
 abbrev pub MineAt : Shape → (ℕ → Role) → Uses → ℕ → ℕ → Type 0
 MineAt shape roles uses caller version =
     IsMine caller (shape.owner (shape.region version)) (uses.used version)
     (is_kept (roles (shape.region version)))
 
--- in one state
+-- a version of a state is a caller's own
 abbrev pub Mine : State → ℕ → ℕ → Type 0
 Mine state caller version = MineAt state.shape state.roles state.uses caller version
 
@@ -56,13 +56,13 @@ pub record IsLive (used : Bool) (role : Role) (joined now : ℕ) : Type 0 where
   pub not_free : role ≢ Free
   pub not_dead : IsDead role joined now → ⊥
 
--- a version is live where so many cycles are done
+-- a version is live, by these ties, roles and uses, where so many cycles are done
 abbrev pub LiveAt : Shape → ℕ → Ties → (ℕ → Role) → Uses → ℕ → Type 0
 LiveAt shape done ties roles uses version =
     IsLive (uses.used version) (roles (shape.region version))
     (ties.done (shape.owner (shape.region version))) done
 
--- and is live at present
+-- a version of a state is live
 abbrev pub Live : State → ℕ → Type 0
 Live state version =
     LiveAt state.shape state.clock.done state.ties state.roles state.uses version
@@ -81,7 +81,7 @@ pub record IsBare (shape : Shape) (masks : Masks) (roles : ℕ → Role) (uses :
       → versions.word version field ≢ 0
       → known_from shape masks caller (versions.word version field) ≡ false
 
--- in one state
+-- a caller of a state is bare
 abbrev pub Bare : State → ℕ → Type 0
 Bare state caller =
     IsBare state.shape state.masks state.roles state.uses state.versions state.hands caller

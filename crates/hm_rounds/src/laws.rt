@@ -1,15 +1,15 @@
 //! The laws of the rounds: the rule that every moment keeps, and what follows from it.
-ghost use Rattle.std.specs.Prelude.{◌≡◌, ◌≢◌, ℕ, ◌+◌, ◌<◌, ◌≤◌, Bool, true, false, List};
+ghost use Rattle.std.specs.Prelude.{◌≡◌, ◌≢◌, ℕ, ◌+◌, ◌*◌, ◌<◌, ◌≤◌, Bool, true, false, List};
 ghost use Rattle.hm_rounds.specs.Phases.{First, Second, Free, From, is_round, is_from};
 ghost use Rattle.hm_rounds.specs.State.{State};
-ghost use Rattle.hm_rounds.specs.Views.{masks_count, Live, IsDead};
+ghost use Rattle.hm_rounds.specs.Views.{masks_count, title, Live, IsDead};
 ghost use Rattle.hm_rounds.specs.Steps.{Step};
 ghost use Rattle.hm_rounds.specs.After.{after};
 ghost use Rattle.hm_rounds.specs.Rule.{Warned, Good};
 ghost use Rattle.hm_rounds.specs.Runs.{Taken, MayTake, run, MayRun, IsOpening, IsMoment};
 ghost use Rattle.hm_rounds.specs.Reach.{Reached, InHolding, IsReusable};
-ghost use Rattle.hm_rounds.specs.Rounds.{IsNextStage, EndsCycle, IsFreed, ScansRight};
-ghost use Rattle.hm_rounds.specs.Story.{start, first_round, story, MissesOne, IsCopiedOut};
+ghost use Rattle.hm_rounds.specs.Rounds.{IsNextStage, EndsCycle, MayFree, ScansRight};
+ghost use Rattle.hm_rounds.specs.Story.{start, first_round, story, other_kinds, MissesOne, IsCopiedOut};
 ghost use Rattle.hm_rounds.specs.Parts.{Word, part_of, SaysSame, word_of};
 
 /// An opening keeps the rule, each step keeps it, and so does each list of steps: the rule holds at every moment.
@@ -45,9 +45,9 @@ pub fn what_is_reached_is_not_used_again()
 pub fn a_region_is_freed_after_its_cycle()
     ensures freed { (state : State) (caller : ℕ) (bare : Bool) (step : Step) (region : ℕ)
         → MayTake state caller bare step → state.roles region ≢ Free
-        → (after state caller bare step).roles region ≡ Free → IsFreed state caller region }
+        → (after state caller bare step).roles region ≡ Free → MayFree state caller region }
     ensures dead { (state : State) (caller region : ℕ) → IsMoment state
-        → IsFreed state caller region
+        → MayFree state caller region
         → IsDead (state.roles region) (state.ties.done caller) state.clock.done }
 {}
 
@@ -104,11 +104,47 @@ pub fn a_scan_tells_the_truth()
         → masks_count state.clock caller ≡ true → ScansRight state caller }
 {}
 
+/// The live versions of an object are one chain: a link names a later one, and at most one of them has link 0. That one
+/// has the references that the plain store gives the object.
+pub fn chains_show_the_store()
+    ensures link { (state : State) (version : ℕ) → IsMoment state → Live state version
+        → state.versions.word version 0 ≢ 0
+        → (state.versions.object (state.versions.word version 0) ≡ state.versions.object version)
+        × (state.versions.rank version
+        < state.versions.rank (state.versions.word version 0)) }
+    ensures end { (state : State) (version other : ℕ) → IsMoment state
+        → Live state version → Live state other
+        → state.versions.word version 0 ≡ 0 → state.versions.word other 0 ≡ 0
+        → state.versions.object other ≡ state.versions.object version → other ≡ version }
+    ensures refs { (state : State) (version field : ℕ) → IsMoment state → Live state version
+        → state.versions.word version 0 ≡ 0 → 0 < field → field < state.shape.fields
+        → state.store.refs (state.versions.object version) field
+        ≡ title state.versions (state.versions.word version field) }
+{}
+
+/// A region is freed at most once for each cycle that its owner has seen done, and filled once more than that at most.
+/// No caller is more than one done count behind. No rank reaches the number of all versions ever published.
+pub fn a_region_is_filled_once_a_cycle()
+    ensures freed { (state : State) (region : ℕ) → IsMoment state
+        → state.uses.freed region ≤ state.clock.seen_done (state.shape.owner region) }
+    ensures from { (state : State) (region : ℕ) → IsMoment state
+        → state.roles region ≡ From
+        → state.uses.freed region ≤ state.ties.done (state.shape.owner region) }
+    ensures made { (state : State) (region : ℕ) → IsMoment state
+        → state.uses.made region ≤ state.shape.places * (state.clock.done + 1) }
+    ensures behind { (state : State) (caller : ℕ) → IsMoment state
+        → caller < state.shape.callers → state.clock.done ≤ state.clock.seen_done caller + 1 }
+    ensures ranks { (state : State) (version : ℕ) → IsMoment state
+        → state.uses.used version ≡ true → state.versions.rank version < state.uses.total }
+{}
+
 /// One clean round misses a version that two rounds find: a run of two callers, in which a version of a From region is
-/// held after both have replied Clean to a First, and in whose end both their regions were freed.
+/// held after both have replied Clean to a First, and at whose end both their regions were freed. Each kind of step is
+/// taken in this run or in another one.
 pub fn one_clean_round_misses_what_two_find()
     ensures opening { IsOpening start }
     ensures run { MayRun start story }
+    ensures others { MayRun start other_kinds }
     ensures misses { MissesOne (run start first_round) 0 1 }
     ensures frees_first { IsCopiedOut (run start story) 0 1 2 }
     ensures frees_other { IsCopiedOut (run start story) 1 11 12 }

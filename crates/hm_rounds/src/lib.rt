@@ -35,8 +35,8 @@
 //! 1. *Join*. In one store of its roles each caller turns its To and Old regions into From, takes a Free one as To, and
 //!    frees what it gave up in a cycle before. It drops its masks, and replies Joined.
 //! 2. *First*. Each caller loads all roles. They are its masks: by them it knows each From region. It scans its own
-//!    part: it copies out what it still names there, and lets go of the rest. It replies Clean where it is bare, that is
-//!    where it knows nothing as From of what it holds and of what its own versions in To and Old name.
+//!    part: it copies out what it still names there, and lets go of the rest. It replies Clean where it is bare: where
+//!    it knows nothing as From of what it holds, and of what its own versions in To and Old name.
 //! 3. *Second*. Nobody scans. A caller that met a From version outside of a scan is marked, and replies Dirty, so that
 //!    there is another First. Any other replies Clean.
 //! 4. *Idle*. What was given up in this cycle is dead: nobody has a name of it. Its owner may free it.
@@ -67,17 +67,18 @@
 //! |---|---|---|---|
 //! | 1 | both | join: version 1, caller 0's, and 11, caller 1's, which names it, are From | each: versions 1 and 11 |
 //! | 2 | 1 | copies version 11 as 12, in its To region; 12 still names version 1 | 1: versions 1, 11 and 12 |
-//! | 3 | 0 | copies version 1 as 2, goes from version 11 to 12, lets 1 and 11 go, replies Clean | 0: versions 2 and 12 |
+//! | 3 | 0 | copies version 1 as 2, goes from 11 to 12, lets 1 and 11 go, replies Clean | 0: versions 2 and 12 |
 //! | 4 | 0 | loads the reference of version 12, and finds version 1: it is marked | 0: versions 1, 2 and 12 |
 //! | 5 | 1 | shortens that reference to version 2, lets 1 and 11 go, replies Clean | 1: versions 2 and 12 |
 //!
 //! Now both have replied Clean to one First, and caller 0 holds version 1. Were the cycle done here, caller 0's region
 //! would be freed under it. In Second it replies Dirty, for its mark, and scans again.
 //!
-//! Two rounds are enough, for this reason. A caller finds a From version only where somebody holds it, or where it is
-//! named by a version that somebody holds or keeps. Who replied Clean to the First and is unmarked has none in its
-//! holding. So where one is left when Second begins, somebody is marked. In Second marks stay, so that caller does not
-//! reply Clean, and the cycle does not end.
+//! Two rounds are enough, for this reason. A caller finds the name of a From version in a word of some version. Either
+//! the owner of that version keeps it, and the name is in the owner's holding; or it is a From version itself, and in
+//! the holding of the caller that looks into it. So a From version comes into a holding only where one was in a holding
+//! before. When Second begins all have replied Clean to the First, so whoever has one in its holding is marked. Nobody
+//! takes its mark away in Second: so while one is left somebody does not reply Clean, and the cycle does not end.
 //!
 //! # What is proved
 //!
@@ -91,6 +92,8 @@
 //!   ([`a_cycle_ends_over_clean_replies`]), and what replies say of it ([`replies_keep_up_with_the_stage`]);
 //! - what First and Second find ([`a_round_finds_what_is_left`]), and what a scan may rely on
 //!   ([`a_scan_tells_the_truth`]);
+//! - what last versions hold ([`chains_show_the_store`]), and how often regions are filled
+//!   ([`a_region_is_filled_once_a_cycle`]);
 //! - the story above is a run, and ends with both regions freed ([`one_clean_round_misses_what_two_find`]);
 //! - a step changes its caller's part and one word, and nothing else ([`a_step_leaves_all_else`]).
 //!
@@ -120,8 +123,9 @@
 mod laws;
 
 pub use laws::{
-    a_cycle_ends_over_clean_replies, a_region_is_freed_after_its_cycle, a_round_finds_what_is_left,
-    a_scan_tells_the_truth, a_step_leaves_all_else, each_step_keeps_the_rule,
+    a_cycle_ends_over_clean_replies, a_region_is_filled_once_a_cycle,
+    a_region_is_freed_after_its_cycle, a_round_finds_what_is_left, a_scan_tells_the_truth,
+    a_step_leaves_all_else, chains_show_the_store, each_step_keeps_the_rule,
     one_clean_round_misses_what_two_find, replies_keep_up_with_the_stage,
     what_is_reached_is_not_used_again,
 };
