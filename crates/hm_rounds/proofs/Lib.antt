@@ -16,5 +16,6 @@ pub mod Baring
 pub mod Opening
 pub mod Steps
 pub mod Running
+pub mod Living
 pub mod Story
 pub mod Parting

@@ -1,8 +1,9 @@
 -- How the stage moves, how a cycle ends, how a region is freed, and what scans and marks tell.
-use Rattle.std.specs.Prelude.{◌≡◌, ◌≢◌, ◌⊎◌, ℕ, ◌+◌, ◌<◌, true, false}
+use Rattle.std.specs.Prelude.{Bool, false, ◌≡◌, ◌≢◌, ◌⊎◌, ℕ, ◌+◌, ◌<◌, true, false}
 use Rattle.hm_rounds.specs.Phases.{Phase, Idle, Join, First, Second, From, Clean}
 use Rattle.hm_rounds.specs.State.{State}
 use Rattle.hm_rounds.specs.Views.{known_from, Live, Mine}
+use Rattle.hm_rounds.specs.Steps.{Write, Create, Hang, Shorten, Step, Ticks, Looks, Builds, Shifts}
 use Rattle.hm_rounds.specs.Reach.{InHolding}
 
 -- every caller has replied to the present stage
@@ -34,6 +35,16 @@ pub record EndsCycle (before now : State) : Type 0 where
   pub second : before.clock.phase ≡ Second
   pub clean : HaveRepliedClean before
   pub idle : now.clock.phase ≡ Idle
+
+-- a step publishes its caller's next version
+abbrev pub publishes : Step → Bool
+publishes (Ticks tick) = false
+publishes (Looks look) = false
+publishes (Builds (Write field target)) = false
+publishes (Builds (Create object next)) = true
+publishes (Builds (Hang version next copy)) = true
+publishes (Builds (Shorten version field target)) = false
+publishes (Shifts shift) = false
 
 -- a caller may free a region: it is a From region of its own, and was given up when fewer cycles
 -- were done than the caller has seen done

@@ -1,5 +1,5 @@
 //! The laws of the rounds: the rule that every moment keeps, and what follows from it.
-ghost use Rattle.std.specs.Prelude.{◌≡◌, ◌≢◌, ℕ, ◌+◌, ◌*◌, ◌<◌, ◌≤◌, Bool, true, false, List};
+ghost use Rattle.std.specs.Prelude.{◌≡◌, ◌≢◌, ◌⊎◌, ◌↔◌, ℕ, ◌+◌, ◌*◌, ◌<◌, ◌≤◌, Bool, true, false, List};
 ghost use Rattle.hm_rounds.specs.Phases.{First, Second, Free, From, is_round, is_from};
 ghost use Rattle.hm_rounds.specs.State.{State};
 ghost use Rattle.hm_rounds.specs.Views.{masks_count, title, Live, IsDead};
@@ -8,7 +8,7 @@ ghost use Rattle.hm_rounds.specs.After.{after};
 ghost use Rattle.hm_rounds.specs.Rule.{Warned, Good};
 ghost use Rattle.hm_rounds.specs.Runs.{Taken, MayTake, run, MayRun, IsOpening, IsMoment};
 ghost use Rattle.hm_rounds.specs.Reach.{Reached, InHolding, IsReusable};
-ghost use Rattle.hm_rounds.specs.Rounds.{IsNextStage, EndsCycle, MayFree, ScansRight};
+ghost use Rattle.hm_rounds.specs.Rounds.{publishes, IsNextStage, EndsCycle, MayFree, ScansRight};
 ghost use Rattle.hm_rounds.specs.Story.{start, first_round, story, other_kinds, MissesOne, IsCopiedOut};
 ghost use Rattle.hm_rounds.specs.Parts.{Word, part_of, SaysSame, word_of};
 
@@ -40,8 +40,29 @@ pub fn what_is_reached_is_not_used_again()
         → (after state caller bare step).uses.used version ≡ true }
 {}
 
-/// A region becomes Free only where it is a From region of the stepping caller, which joined when fewer cycles were done
-/// than it has seen done; the region is dead then.
+/// A version becomes live by its publishing alone. No step but the end of a cycle ends its life; and that ends the lives
+/// of those in From regions, and of no others.
+pub fn a_version_lives_until_its_cycle_ends()
+    ensures begins { (state : State) (caller : ℕ) (bare : Bool) (step : Step) (version : ℕ)
+        → IsMoment state → MayTake state caller bare step
+        → Live (after state caller bare step) version
+        → Live state version ⊎ ((publishes step ≡ true) × (version ≡ state.hands.next caller)) }
+    ensures published { (state : State) (caller : ℕ) (bare : Bool) (step : Step)
+        → MayTake state caller bare step → publishes step ≡ true
+        → Live (after state caller bare step) (state.hands.next caller) }
+    ensures stays { (state : State) (caller : ℕ) (bare : Bool) (step : Step) (version : ℕ)
+        → IsMoment state → MayTake state caller bare step → Live state version
+        → (after state caller bare step).clock.done ≡ state.clock.done
+        → Live (after state caller bare step) version }
+    ensures ends { (state : State) (caller : ℕ) (bare : Bool) (step : Step) (version : ℕ)
+        → IsMoment state → MayTake state caller bare step → Live state version
+        → (after state caller bare step).clock.done ≢ state.clock.done
+        → Live (after state caller bare step) version
+        ↔ (state.roles (state.shape.region version) ≢ From) }
+{}
+
+/// A region becomes Free only where it is a From region of the stepping caller, which joined when fewer cycles were
+/// done than it has seen done; the region is dead then.
 pub fn a_region_is_freed_after_its_cycle()
     ensures freed { (state : State) (caller : ℕ) (bare : Bool) (step : Step) (region : ℕ)
         → MayTake state caller bare step → state.roles region ≢ Free
@@ -77,9 +98,9 @@ pub fn replies_keep_up_with_the_stage()
         → state.clock.number ≤ state.clock.replied caller + 1 }
 {}
 
-/// In First and Second every caller has joined in this cycle, and each mask that a caller has is the owner's present one.
-/// In First the holding of a caller that has replied and is unmarked has nothing of a From region. In Second such a
-/// version in any caller's holding means that some caller is marked, and has not replied Clean.
+/// In First and Second every caller has joined in this cycle, and each mask that a caller has is the owner's present
+/// one. In First the holding of a caller that has replied and is unmarked has nothing of a From region. In Second such
+/// a version in any caller's holding means that some caller is marked, and has not replied Clean.
 pub fn a_round_finds_what_is_left()
     ensures joined { (state : State) (caller : ℕ) → IsMoment state
         → is_round state.clock.phase ≡ true → caller < state.shape.callers

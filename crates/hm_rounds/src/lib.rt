@@ -88,6 +88,7 @@
 //!
 //! - each step keeps the rule, so every list of steps from an opening does ([`each_step_keeps_the_rule`]);
 //! - what is reached is live, and no step ends its use ([`what_is_reached_is_not_used_again`]);
+//! - when versions begin and cease to be live ([`a_version_lives_until_its_cycle_ends`]);
 //! - how a region is freed ([`a_region_is_freed_after_its_cycle`]), how the stage moves and a cycle ends
 //!   ([`a_cycle_ends_over_clean_replies`]), and what replies say of it ([`replies_keep_up_with_the_stage`]);
 //! - what First and Second find ([`a_round_finds_what_is_left`]), and what a scan may rely on
@@ -115,9 +116,10 @@
 //! | a step that lets a version go | that step, then `LetGo` |
 //!
 //! More may be done here than in a heap: any Free region may be taken, a join repeated in one Join, a turn taken and a
-//! Join begun at any time; a Second may go back to First though nobody replied Dirty; any version may be copied. A
-//! number there is one more here, since a fresh heap's stage has number 0. Stamps, numbers of objects, histories and
-//! seats are not here.
+//! Join begun at any time; a caller may reply Clean to a First by whatever way it came to be bare, and Dirty though it
+//! is unmarked; a Second may go back to First though nobody replied Dirty; any version may be copied, and let go though
+//! it is not held. The number of a stage is one more here, since a fresh heap's stage has number 0. Stamps, numbers of
+//! objects, histories and seats are not here.
 #![tactic(auto)]
 
 mod laws;
@@ -125,7 +127,7 @@ mod laws;
 pub use laws::{
     a_cycle_ends_over_clean_replies, a_region_is_filled_once_a_cycle,
     a_region_is_freed_after_its_cycle, a_round_finds_what_is_left, a_scan_tells_the_truth,
-    a_step_leaves_all_else, chains_show_the_store, each_step_keeps_the_rule,
-    one_clean_round_misses_what_two_find, replies_keep_up_with_the_stage,
+    a_step_leaves_all_else, a_version_lives_until_its_cycle_ends, chains_show_the_store,
+    each_step_keeps_the_rule, one_clean_round_misses_what_two_find, replies_keep_up_with_the_stage,
     what_is_reached_is_not_used_again,
 };
