@@ -48,9 +48,10 @@ pub freed_dead : (s : State) (i x : ℕ) → Good s → MayFree s i x
 freed_dead s i x g freed = let time = g.timely i in grind (arith, nat_tests)
 
 -- the stage moves on over replies of all
-pub step_moves : (s : State) (i : ℕ) (b : Bool) (step : Step) → Allowed s i step → Timely s i
+pub step_moves : (s : State) (i : ℕ) (b : Bool) (step : Step) → Allowed s i step
+    → ((q : ℕ) → Timely s q) → Timely s i
     → (after s i b step).clock.number ≢ s.clock.number → IsNextStage s (after s i b step)
-step_moves s i b step may time moved = grind (arith, nat_tests)
+step_moves s i b step may times time moved = grind (arith, nat_tests)
 
 -- a cycle ends over Clean replies
 pub step_ends : (s : State) (i : ℕ) (b : Bool) (step : Step) → Allowed s i step → Timely s i

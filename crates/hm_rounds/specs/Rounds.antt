@@ -1,6 +1,6 @@
 -- How the stage moves, how a cycle ends, how a region is freed, and what scans and marks tell.
-use Rattle.std.specs.Prelude.{Bool, false, ◌≡◌, ◌≢◌, ◌⊎◌, ℕ, ◌+◌, ◌<◌, true, false}
-use Rattle.hm_rounds.specs.Phases.{Phase, Idle, Join, First, Second, From, Clean}
+use Rattle.std.specs.Prelude.{◌≡◌, ◌≢◌, ◌⊎◌, ℕ, ◌+◌, ◌<◌, Bool, true, false}
+use Rattle.hm_rounds.specs.Phases.{Phase, Idle, Join, First, Second, From, Reply, Joined, Clean}
 use Rattle.hm_rounds.specs.State.{State}
 use Rattle.hm_rounds.specs.Views.{known_from, Live, Mine}
 use Rattle.hm_rounds.specs.Steps.{Write, Create, Hang, Shorten, Step, Ticks, Looks, Builds, Shifts}
@@ -11,18 +11,19 @@ abbrev pub HaveReplied : State → Type 0
 HaveReplied state = (caller : ℕ) → caller < state.shape.callers
     → state.clock.replied caller ≡ state.clock.number
 
--- every caller has replied Clean to it
-abbrev pub HaveRepliedClean : State → Type 0
-HaveRepliedClean state = (caller : ℕ) → caller < state.shape.callers
-    → (state.clock.replied caller ≡ state.clock.number) × (state.clock.reply caller ≡ Clean)
+-- every caller has replied so to the present stage
+abbrev pub HaveRepliedAs : State → Reply → Type 0
+HaveRepliedAs state reply = (caller : ℕ) → caller < state.shape.callers
+    → (state.clock.replied caller ≡ state.clock.number) × (state.clock.reply caller ≡ reply)
 
 -- the stage may move on so: a Join begins at any time, and each other phase over a reply of every
 -- caller to the phase before it
 abbrev pub MovesOn : State → Phase → Phase → Type 0
 MovesOn state from Join = Unit {0}
-MovesOn state from First = ((from ≡ Join) ⊎ (from ≡ Second)) × HaveReplied state
-MovesOn state from Second = (from ≡ First) × HaveReplied state
-MovesOn state from Idle = (from ≡ Second) × HaveRepliedClean state
+MovesOn state from First =
+    ((from ≡ Join) × HaveRepliedAs state Joined) ⊎ ((from ≡ Second) × HaveReplied state)
+MovesOn state from Second = (from ≡ First) × HaveRepliedAs state Clean
+MovesOn state from Idle = (from ≡ Second) × HaveRepliedAs state Clean
 
 -- a stage follows another one
 pub record IsNextStage (before now : State) : Type 0 where
@@ -33,7 +34,7 @@ pub record IsNextStage (before now : State) : Type 0 where
 pub record EndsCycle (before now : State) : Type 0 where
   pub done : now.clock.done ≡ before.clock.done + 1
   pub second : before.clock.phase ≡ Second
-  pub clean : HaveRepliedClean before
+  pub clean : HaveRepliedAs before Clean
   pub idle : now.clock.phase ≡ Idle
 
 -- a step publishes its caller's next version

@@ -1,6 +1,6 @@
 -- What every moment keeps of the stage, of joins and of masks.
 use Rattle.std.specs.Prelude.{◌≡◌, ◌⊎◌, ℕ, ◌+◌, ◌*◌, ◌<◌, ◌≤◌, true, false}
-use Rattle.hm_rounds.specs.Phases.{Join, First, Role, From, phase_place, is_round, is_from}
+use Rattle.hm_rounds.specs.Phases.{Join, First, Role, From, Joined, Clean, phase_place, is_round, is_from}
 use Rattle.hm_rounds.specs.State.{Shape, Clock, Ties, Masks}
 use Rattle.hm_rounds.specs.Views.{is_scanning, masks_count, AllMasks}
 
@@ -19,6 +19,11 @@ pub record KeepsTime (shape : Shape) (clock : Clock) (caller : ℕ) : Type 0 whe
   -- in a round it has replied to the present stage or to the one before
   pub recent : caller < shape.callers → is_round clock.phase ≡ true
       → clock.number ≤ clock.replied caller + 1
+  -- its reply to a Join is Joined, and that to a First is Clean
+  pub joined : clock.phase ≡ Join → clock.replied caller ≡ clock.number
+      → clock.reply caller ≡ Joined
+  pub clean : clock.phase ≡ First → clock.replied caller ≡ clock.number
+      → clock.reply caller ≡ Clean
   pub known : (other : ℕ) → clock.known caller other ≤ clock.number
   -- a reply to the present stage that it knows is the other's last one
   pub stands : (other : ℕ) → clock.known caller other ≡ clock.number

@@ -6,7 +6,7 @@ use Rattle.hm_rounds.specs.State.{State}
 use Rattle.hm_rounds.specs.Steps.{LoadStage, MoveStage, LoadReply, StoreReply, Load, Miss, LetGo, Write, Create, Hang, Shorten, LoadRoles, TakeJoin, Turn, Reuse, Step, Ticks, Looks, Builds, Shifts}
 use Rattle.hm_rounds.specs.Views.{Live}
 use Rattle.hm_rounds.specs.Runs.{Taken}
-use Rattle.hm_rounds.specs.Rounds.{HaveRepliedClean}
+use Rattle.hm_rounds.specs.Rounds.{HaveRepliedAs}
 
 -- version 1 is caller 0's, of object 1; version 11 is caller 1's, of object 2, and refers to
 -- object 1; each lies in the region of its number, and both callers hold both
@@ -166,7 +166,7 @@ other_kinds =
 -- version of a From region
 pub record MissesOne (state : State) (caller version : ℕ) : Type 0 where
   pub first : state.clock.phase ≡ First
-  pub clean : HaveRepliedClean state
+  pub clean : HaveRepliedAs state Clean
   pub held : state.hands.held caller version ≡ true
   pub from : state.roles (state.shape.region version) ≡ From
   pub marked : state.scan.mark caller ≡ true

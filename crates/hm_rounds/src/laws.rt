@@ -72,8 +72,8 @@ pub fn a_region_is_freed_after_its_cycle()
         → IsDead (state.roles region) (state.ties.done caller) state.clock.done }
 {}
 
-/// The stage moves to Join, or over a reply of every caller to the stage before; and the done count rises only by the
-/// move from Second to Idle, over Clean replies of all callers.
+/// The stage moves to Join, or over a reply of every caller to the stage before: to First over Joined or from a Second,
+/// to Second and to Idle over Clean. The done count rises only by the move from Second to Idle.
 pub fn a_cycle_ends_over_clean_replies()
     ensures moves { (state : State) (caller : ℕ) (bare : Bool) (step : Step) → IsMoment state
         → MayTake state caller bare step

@@ -27,9 +27,9 @@
 //! | To | Who may move it | Over which replies to the stage before |
 //! |---|---|---|
 //! | Join | any caller, at any time | none |
-//! | First, from Join | any caller | a reply of every caller: each has joined |
-//! | Second, from First | any caller | a reply of every caller: each is clean |
-//! | First, from Second | any caller | a reply of every caller |
+//! | First, from Join | any caller | a Joined reply of every caller |
+//! | Second, from First | any caller | a Clean reply of every caller |
+//! | First, from Second | any caller | a reply of every caller, Clean or Dirty |
 //! | Idle, from Second, with one cycle more done | any caller | a Clean reply of every caller |
 //!
 //! 1. *Join*. In one store of its roles each caller turns its To and Old regions into From, takes a Free one as To, and

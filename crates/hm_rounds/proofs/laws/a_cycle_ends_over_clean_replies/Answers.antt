@@ -4,7 +4,8 @@ use Rattle.hm_rounds.proofs.laws.a_cycle_ends_over_clean_replies.Goals as goal
 
 pub returns-clause-moves : goal.returns-clause-moves
 returns-clause-moves c = λ s i b step moment take moved.
-    step_moves s i b step take.allowed ((moment_good s moment).timely i) moved
+    let g = moment_good s moment in
+    step_moves s i b step take.allowed g.timely (g.timely i) moved
 
 pub returns-clause-ends : goal.returns-clause-ends
 returns-clause-ends c = λ s i b step moment take moved.
