@@ -16,11 +16,6 @@ pub live_begins : (s : State) (i : ℕ) (b : Bool) (step : Step) (v : ℕ) → A
     → Live s v ⊎ ((publishes step ≡ true) × (v ≡ s.hands.next i))
 live_begins s i b step v may is time tie safe live = grind (arith, nat_tests)
 
--- what is published is live
-pub live_published : (s : State) (i : ℕ) (b : Bool) (step : Step) → Allowed s i step
-    → publishes step ≡ true → Live (after s i b step) (s.hands.next i)
-live_published s i b step may out = grind (arith, nat_tests)
-
 -- a step that ends no cycle ends no life
 pub live_stays : (s : State) (i : ℕ) (b : Bool) (step : Step) (v : ℕ) → Allowed s i step
     → i < s.shape.callers → Timely s i → Tied s i → Safe s → Live s v

@@ -3,12 +3,12 @@ use Rattle.std.proofs.Common.{◌≡◌, ◌≢◌, ℕ, ◌<◌, ◌≤◌, Boo
 use Rattle.std.proofs.lemmas.Bool.Decides.{nat_tests}
 use Rattle.std.proofs.Common.{◌+◌, ◌*◌}
 use Rattle.std.proofs.lemmas.Nat.{mul-le}
-use Rattle.hm_rounds.specs.Phases.{First, Second, Free, From}
+use Rattle.hm_rounds.specs.Phases.{First, Second, From}
 use Rattle.hm_rounds.specs.State.{State}
 use Rattle.hm_rounds.specs.Views.{masks_count, known_from, Live, IsDead}
 use Rattle.hm_rounds.specs.Steps.{Step}
 use Rattle.hm_rounds.specs.After.{after}
-use Rattle.hm_rounds.specs.Allowed.{Allowed}
+use Rattle.hm_rounds.specs.Allowed.{HasPlace, Allowed}
 use Rattle.hm_rounds.specs.Rule.{Warned, Timely, Good}
 use Rattle.hm_rounds.specs.Runs.{IsMoment, after_steps}
 use Rattle.hm_rounds.specs.Reach.{Reached, by_caller, by_version, InHolding, held, named, IsReusable}
@@ -31,16 +31,15 @@ pub live_kept : (s : State) (i v : ℕ) → Good s → Live s v → IsReusable s
 live_kept s i v g live again =
     let safe = g.safe in let time = g.timely i in grind (arith, nat_tests)
 
+-- and it is nobody's next one
+pub live_given : (s : State) (i v : ℕ) → Live s v → HasPlace s i → v ≢ s.hands.next i
+live_given s i v live place = grind (arith, nat_tests)
+
 -- no step ends the use of a live version
 pub live_used : (s : State) (i : ℕ) (b : Bool) (step : Step) (v : ℕ) → Good s → Live s v
     → (after s i b step).uses.used v ≡ true
 live_used s i b step v g live =
     let safe = g.safe in let time = g.timely i in grind (arith, nat_tests)
-
--- a region that a step frees was given up by the caller in an earlier cycle
-pub step_frees : (s : State) (i : ℕ) (b : Bool) (step : Step) (x : ℕ) → Allowed s i step
-    → s.roles x ≢ Free → (after s i b step).roles x ≡ Free → MayFree s i x
-step_frees s i b step x may was now = grind (arith, nat_tests)
 
 -- it is dead then
 pub freed_dead : (s : State) (i x : ℕ) → Good s → MayFree s i x
@@ -57,11 +56,6 @@ step_moves s i b step may times time moved = grind (arith, nat_tests)
 pub step_ends : (s : State) (i : ℕ) (b : Bool) (step : Step) → Allowed s i step → Timely s i
     → (after s i b step).clock.done ≢ s.clock.done → EndsCycle s (after s i b step)
 step_ends s i b step may time moved = grind (arith, nat_tests)
-
--- nobody's replies go back
-pub step_replies : (s : State) (i : ℕ) (b : Bool) (step : Step) (m : ℕ) → Allowed s i step
-    → s.clock.replied m ≤ (after s i b step).clock.replied m
-step_replies s i b step m may = grind (arith, nat_tests)
 
 -- nobody replies ahead of the stage
 pub replied_now : (s : State) (i : ℕ) → Good s → s.clock.replied i ≤ s.clock.number

@@ -5,6 +5,7 @@ ghost use Rattle.hm_rounds.specs.State.{State};
 ghost use Rattle.hm_rounds.specs.Views.{masks_count, title, Live, IsDead};
 ghost use Rattle.hm_rounds.specs.Steps.{Step};
 ghost use Rattle.hm_rounds.specs.After.{after};
+ghost use Rattle.hm_rounds.specs.Allowed.{HasPlace};
 ghost use Rattle.hm_rounds.specs.Rule.{Warned, Good};
 ghost use Rattle.hm_rounds.specs.Runs.{Taken, MayTake, run, MayRun, IsOpening, IsMoment};
 ghost use Rattle.hm_rounds.specs.Reach.{Reached, InHolding, IsReusable};
@@ -23,7 +24,8 @@ pub fn each_step_keeps_the_rule()
 {}
 
 /// At every moment what a caller holds is live, and so is what a live version names: each version in the reach is used,
-/// and its region is neither Free nor dead. So nobody may use its region again, and no step ends its use.
+/// and its region is neither Free nor dead. So nobody may use its region again, nobody is given it as the next version,
+/// and no step ends its use.
 pub fn what_is_reached_is_not_used_again()
     ensures held { (state : State) (caller version : ℕ) → IsMoment state
         → caller < state.shape.callers → state.hands.held caller version ≡ true
@@ -35,6 +37,8 @@ pub fn what_is_reached_is_not_used_again()
         → Reached state version → Live state version }
     ensures kept { (state : State) (version caller : ℕ) → IsMoment state
         → Reached state version → IsReusable state caller (state.shape.region version) → ⊥ }
+    ensures given { (state : State) (version caller : ℕ) → IsMoment state
+        → Reached state version → HasPlace state caller → version ≢ state.hands.next caller }
     ensures used { (state : State) (version caller : ℕ) (bare : Bool) (step : Step)
         → IsMoment state → Reached state version
         → (after state caller bare step).uses.used version ≡ true }
@@ -61,12 +65,20 @@ pub fn a_version_lives_until_its_cycle_ends()
         ↔ (state.roles (state.shape.region version) ≢ From) }
 {}
 
-/// A region becomes Free only where it is a From region of the stepping caller, which joined when fewer cycles were
-/// done than it has seen done; the region is dead then.
+/// A region becomes Free, a From region gets another role, and a version ceases to be used, only where the region is a
+/// From region of the stepping caller, which joined when fewer cycles were done than it has seen done; the region is
+/// dead then.
 pub fn a_region_is_freed_after_its_cycle()
     ensures freed { (state : State) (caller : ℕ) (bare : Bool) (step : Step) (region : ℕ)
         → MayTake state caller bare step → state.roles region ≢ Free
         → (after state caller bare step).roles region ≡ Free → MayFree state caller region }
+    ensures taken { (state : State) (caller : ℕ) (bare : Bool) (step : Step) (region : ℕ)
+        → MayTake state caller bare step → state.roles region ≡ From
+        → (after state caller bare step).roles region ≢ From → MayFree state caller region }
+    ensures unused { (state : State) (caller : ℕ) (bare : Bool) (step : Step) (version : ℕ)
+        → MayTake state caller bare step → state.uses.used version ≡ true
+        → (after state caller bare step).uses.used version ≡ false
+        → MayFree state caller (state.shape.region version) }
     ensures dead { (state : State) (caller region : ℕ) → IsMoment state
         → MayFree state caller region
         → IsDead (state.roles region) (state.ties.done caller) state.clock.done }
