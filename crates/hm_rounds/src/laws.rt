@@ -1,6 +1,6 @@
 //! The laws of the rounds: the rule that every moment keeps, and what follows from it.
 ghost use Rattle.std.specs.Prelude.{◌≡◌, ◌≢◌, ◌⊎◌, ◌↔◌, ℕ, ◌+◌, ◌*◌, ◌<◌, ◌≤◌, Bool, true, false, List};
-ghost use Rattle.hm_rounds.specs.Phases.{First, Second, Free, From, is_round, is_from};
+ghost use Rattle.hm_rounds.specs.Phases.{First, Second, Free, From, phase_place, is_round, is_from};
 ghost use Rattle.hm_rounds.specs.State.{State};
 ghost use Rattle.hm_rounds.specs.Views.{masks_count, title, Live, IsDead};
 ghost use Rattle.hm_rounds.specs.Steps.{Step};
@@ -85,7 +85,8 @@ pub fn a_region_is_freed_after_its_cycle()
 {}
 
 /// The stage moves to Join, or over a reply of every caller to the stage before: to First over Joined or from a Second,
-/// to Second and to Idle over Clean. The done count rises only by the move from Second to Idle.
+/// to Second and to Idle over Clean. The done count rises only by the move from Second to Idle, so that the stage has
+/// moved at least four times for each cycle that is done.
 pub fn a_cycle_ends_over_clean_replies()
     ensures moves { (state : State) (caller : ℕ) (bare : Bool) (step : Step) → IsMoment state
         → MayTake state caller bare step
@@ -95,6 +96,8 @@ pub fn a_cycle_ends_over_clean_replies()
         → MayTake state caller bare step
         → (after state caller bare step).clock.done ≢ state.clock.done
         → EndsCycle state (after state caller bare step) }
+    ensures number { (state : State) → IsMoment state
+        → 4 * state.clock.done + phase_place state.clock.phase < state.clock.number }
 {}
 
 /// Nobody replies ahead of the stage, and nobody's replies go back. In a round each caller has replied to the present
@@ -133,7 +136,7 @@ pub fn a_round_finds_what_is_left()
 
 /// In First and Second, and while a caller scans, its masks are right, and so is what its scan has shown.
 pub fn a_scan_tells_the_truth()
-    ensures { (state : State) (caller : ℕ) → IsMoment state → caller < state.shape.callers
+    ensures right { (state : State) (caller : ℕ) → IsMoment state → caller < state.shape.callers
         → masks_count state.clock caller ≡ true → ScansRight state caller }
 {}
 

@@ -10,3 +10,6 @@ returns-clause-moves c = λ s i b step moment take moved.
 pub returns-clause-ends : goal.returns-clause-ends
 returns-clause-ends c = λ s i b step moment take moved.
     step_ends s i b step take.allowed ((moment_good s moment).timely i) moved
+
+pub returns-clause-number : goal.returns-clause-number
+returns-clause-number c = λ s moment. (moment_good s moment).counted.number
