@@ -1,0 +1,20 @@
+-- The stage, and what callers have seen and replied.
+use Rattle.std.proofs.Common.{ℕ, Bool, arith}
+use Rattle.std.proofs.lemmas.Bool.Decides.{nat_tests}
+use Rattle.hm_rounds.specs.State.{State}
+use Rattle.hm_rounds.specs.Steps.{Tick, Ticks}
+use Rattle.hm_rounds.specs.After.{after}
+use Rattle.hm_rounds.specs.Allowed.{Allowed}
+use Rattle.hm_rounds.specs.Rule.{Counted, Timely}
+
+-- after a tick
+pub tick_timely : (s : State) (i : ℕ) (b : Bool) (t : Tick) (m : ℕ) → Allowed s i (Ticks t)
+    → ((q : ℕ) → Timely s q)
+    → Timely s i
+    → Timely s m → Timely (after s i b (Ticks t)) m
+tick_timely s i b t m may times own g = grind (arith, nat_tests)
+
+-- after a tick
+pub tick_counted : (s : State) (i : ℕ) (b : Bool) (t : Tick) → Allowed s i (Ticks t) → Timely s i
+    → Counted s → Counted (after s i b (Ticks t))
+tick_counted s i b t may own g = grind (arith, nat_tests)
