@@ -12,6 +12,7 @@ use Rattle.hm_model.specs.declared.entry.Entry.{Entry}
 use Rattle.hm_agreement.specs.Spelled.{spelled}
 use Rattle.hm_replay.specs.declared.conclusion.Came.{Came}
 use Rattle.hm_replay.proofs.Files.{of_file}
+use Rattle.hm_words.specs.declared.asked.Settings.{Settings}
 use Rattle.hm_replay.specs.Concluding.{CameTo, HasEnded, HasFinished, HasStalled, HaveCome, WasFullAt}
 use Rattle.hm_desk.specs.declared.desk.Worked.TheVariants.{Stalled}
 
@@ -75,7 +76,8 @@ next_sum (c ∷ came) k orders h =
     let same : count (k + 1 + length came) ≡ count (k + length (c ∷ came)) = ap {A = ℕ} count (omega arith) in
     omega (arith, one, count_split k orders, sum, rest, same)
 
-module _ (files : List (List Order)) (history : List Entry) (came : List Came) (to : CameTo files history came) where
+module _ (settings : Settings) (files : List (List Order)) (history : List Entry) (came : List Came)
+    (to : CameTo settings files history came) where
   -- a caller has a file
   pub file_of : (k : ℕ) (c : Came) → slice_get came k ≡ Some c
       → (orders : List Order) × (slice_get files k ≡ Some orders)
@@ -114,29 +116,30 @@ module _ (files : List (List Order)) (history : List Entry) (came : List Came) (
 
 -- there are at most eight callers, and each has applied at most a million orders
 pub few_callers : (came : List Came) → HaveCome came → length came ≤ 8
-few_callers came h = let count = h.2.count in let few = h.2.are.few in omega (arith, count, few)
+few_callers came h = let count = h.3.count in let few = h.3.are.few in omega (arith, count, few)
 
 pub few_orders : (came : List Came) → HaveCome came → (i : ℕ) (c : Came) → i < length came
     → c ≡ get_or came i c → c.progress.next ≤ 1000000
 few_orders came h i c within is =
-    few_applied h.0 h.1 came h.2 i c (slice_get_read came (length came) i c refl within is)
+    few_applied h.0 h.1 h.2 came h.3 i c (slice_get_read came (length came) i c refl within is)
 
 -- a caller that stalled tells that its heap was full
-pub full_at : (files : List (List Order)) (history : List Entry) (came : List Came) → CameTo files history came
+pub full_at : (settings : Settings) (files : List (List Order)) (history : List Entry) (came : List Came)
+    → CameTo settings files history came
     → (k used free at : ℕ) (c : Came) → k < length came → c ≡ get_or came k c → c.worked ≡ Stalled at used free
     → (root : ℕ) → root ≡ length (spelled history)
-    → WasFullAt files history
+    → WasFullAt settings.versions files history
     record { caller = k; settling = false; settled = root; root = root; used = used; free = free }
-full_at files history came to k used free at c within is stalled root all =
+full_at settings files history came to k used free at c within is stalled root all =
     let there = slice_get_read came (length came) k c refl within is in
-    let file = file_of files history came to k c there in
+    let file = file_of settings files history came to k c there in
     let part = to.parts k file.0 c file.1 there in
     record {
       caller = subst (λ (n : ℕ). k < n) to.count within;
       settling = refl;
       root = all;
       settled = refl;
-      used = subst (HasEnded file.0 c.progress.next c.progress.told) stalled part.ended;
+      used = subst (HasEnded settings.versions file.0 c.progress.next c.progress.told) stalled part.ended;
     }
 
 -- and it is the one that stalled, behind callers that have finished

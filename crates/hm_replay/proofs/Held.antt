@@ -6,7 +6,7 @@ use Rattle.std.proofs.lemmas.List.{length-map, map-append}
 use Rattle.std.proofs.lemmas.Option.{slice_get-map, slice_get_within}
 use Rattle.hm_orders.specs.declared.order.Order.{Order}
 use Rattle.hm_orders.specs.Rows.{orders_held}
-use Rattle.hm_replay.specs.Words.{file_at}
+use Rattle.hm_replay.specs.Wishes.{file_at}
 use Rattle.hm_replay.specs.Loading.{AreHeld, AreOfFile, AreOfFiles, IsCause, IsHeld, IsReadable, IsRefusedText, IsWithin, bytes_at, most_files}
 use Rattle.hm_replay.specs.Reading.{AreOrders, AreTexts, HoldsOrders, IsFirst, IsOfFirst, IsOrders, IsRefusedBy, IsText}
 use Rattle.hm_replay.specs.Refusals.{IsEarly}

@@ -6,11 +6,12 @@ use Rattle.std.proofs.lemmas.List.{drop_all, length-append, length-map, take_all
 use Rattle.std.proofs.lemmas.Option.{slice_get_within, slice_get-map, slice_get-get_or}
 use Rattle.hm_orders.specs.declared.order.Order.{Order}
 use Rattle.hm_model.specs.Sight.{IsSameCaller}
+use Rattle.hm_book.specs.declared.limits.Limits.{Limits}
 use Rattle.hm_cellbook.specs.declared.usage.BookUsage.{BookUsage}
 use Rattle.hm_cells.specs.Facts.{Facts, sight_of}
 use Rattle.hm_heap.specs.Mutators.{AreSameCallers}
 use Rattle.hm_replay.specs.declared.conclusion.Came.{Came}
-use Rattle.hm_replay.specs.Working.{AreJobs, AreReady, HaveWorked, IsAtWork, IsReady, Working, Works}
+use Rattle.hm_replay.specs.Working.{AreJobs, AreReady, HaveWorked, IsAtWork, IsReady, IsUnder, Working, Works}
 use Rattle.hm_replay.proofs.Pushed.{at_value, item_here, placed}
 
 -- what stands behind a front stands at its length
@@ -25,11 +26,12 @@ at_mapped f xs k x y here shown =
     let same : Some (f x) ≡ Some y = sym (ap (option_map f) here) ∙ (sym (slice_get-map f xs k) ∙ shown) in cc
 
 -- the next pass is ready for the orders of the next file
-pub next_ready : (passes : List (Facts BookUsage)) (files : List (List Order)) → AreReady passes files
+pub next_ready : (limits : Limits) (passes : List (Facts BookUsage)) (files : List (List Order))
+    → AreReady limits passes files
     → (before : List (Facts BookUsage)) (s : Facts BookUsage) (rest : List (Facts BookUsage))
     → passes ≡ before ++ s ∷ rest → (orders : List Order) → slice_get files (length before) ≡ Some orders
     → IsReady s orders
-next_ready passes files ready before s rest all orders is =
+next_ready limits passes files ready before s rest all orders is =
     ready.each (length before) s orders
     (ap (λ (l : List (Facts BookUsage)). slice_get l (length before)) all ∙ at_seam before s rest) is
 
@@ -47,7 +49,17 @@ jobs_more passes files jobs are before count s rest all job pass orders =
       orders,
     ))
 
-module _ (passes : List (Facts BookUsage)) (files : List (List Order)) (ready : AreReady passes files)
+-- jobs of such passes are under these limits
+pub jobs_under : (limits : Limits) (passes : List (Facts BookUsage)) (files : List (List Order))
+    → AreReady limits passes files → (jobs : List Working) → AreJobs passes files jobs → All (IsUnder limits) jobs
+jobs_under limits passes files ready jobs are = λ k d low.
+    let job : Working = get_or jobs k d in
+    let here : slice_get jobs k ≡ Some job = slice_get-get_or jobs k d low in
+    let its = at_value (λ j. (slice_get passes k ≡ Some j.pass) × (slice_get files k ≡ Some j.orders))
+    (slice_get jobs k) job here (are k) in
+    ready.limits_are k job.pass its.0
+
+module _ (limits : Limits) (passes : List (Facts BookUsage)) (files : List (List Order)) (ready : AreReady limits passes files)
     (old new : List Working) (are : AreJobs passes files old) (count : length old ≡ length passes)
     (wide : length new ≡ length old)
     (works : (i : ℕ) (d : Working) → i < length old → Works (get_or old i d) (get_or new i d)) where

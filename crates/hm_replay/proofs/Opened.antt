@@ -1,5 +1,5 @@
 -- A fresh heap with an empty book, and its passes.
-use Rattle.std.proofs.Common.{◌≡◌, ℕ, ◌+◌, ◌<◌, List, length, map, Some, slice_get, slice_index, get_or, sym, ap, ◌∙◌, subst, arith}
+use Rattle.std.proofs.Common.{◌≡◌, ℕ, ◌+◌, ◌<◌, List, length, map, Some, slice_get, slice_index, get_or, refl, sym, ap, ◌∙◌, subst, arith}
 use Rattle.std.specs.List.{All}
 use Rattle.std.proofs.lemmas.Option.{slice_get_within, get_or_from_slice_get}
 use Rattle.std.proofs.lemmas.List.{get_or-map}
@@ -7,7 +7,7 @@ use Rattle.hm_orders.specs.declared.order.Order.{Order}
 use Rattle.hm_orders.specs.Orders.{AreRowsOf}
 use Rattle.hm_model.specs.declared.object.Name.{Name}
 use Rattle.hm_model.specs.Sight.{Sight, HasHistory, IsFresh}
-use Rattle.hm_book.specs.Limits.{no_limits}
+use Rattle.hm_book.specs.declared.limits.Limits.{Limits}
 use Rattle.hm_agreement.specs.Spelled.{IsBookStart}
 use Rattle.hm_agreement.proofs.BookStart.{common_is}
 use Rattle.hm_cellbook.specs.declared.usage.BookUsage.{BookUsage}
@@ -22,10 +22,10 @@ use Rattle.hm_replay.proofs.Files.{of_file}
 
 -- a fresh caller keeps the empty book
 pub keeps_fresh : (c : Sight BookUsage) → IsFresh c → HasHistory book_lawful book_allowed c → IsBookStart c.start
-    → c.usage.limits ≡ no_limits → c.number < 8 → KeepsBook no_limits c
-keeps_fresh c fresh history start limits few = record {
+    → c.number < 8 → KeepsBook c.usage.limits c
+keeps_fresh c fresh history start few = record {
   start = start;
-  limits_are = limits;
+  limits_are = refl;
   number = few;
   common = fresh.common ∙ ap (λ (n : Name). Some n) (common_is c.start start);
   unset = fresh.unset;
@@ -49,12 +49,11 @@ own_file c files k orders are is number lengths =
 
 module _ (m : Made BookUsage) (passes : List (Facts BookUsage)) (files : List (List Order)) (are : AreOfFiles files)
     (all : AreAll m passes) (callers : m.site.shape.callers ≡ length files) (start : IsBookStart m.site.start)
-    (limits : m.site.usage.limits ≡ no_limits) (lengths : m.site.usage.lengths ≡ map length files)
+    (limits : Limits) (limits_are : m.site.usage.limits ≡ limits) (lengths : m.site.usage.lengths ≡ map length files)
     (fresh : All (λ s. IsFresh (sight_of s)) passes)
-    (histories : All (λ s. HasHistory book_lawful book_allowed (sight_of s)) passes)
-    (span : All (λ s. (sight_of s).span ≡ 4096) passes) where
+    (histories : All (λ s. HasHistory book_lawful book_allowed (sight_of s)) passes) where
   -- each pass of a fresh heap is ready for its file
-  pub ready : AreReady passes files
+  pub ready : AreReady limits passes files
   ready = record {
     count = all.count ∙ callers;
     each = λ k s orders is file.
@@ -63,17 +62,16 @@ module _ (m : Made BookUsage) (passes : List (Facts BookUsage)) (files : List (L
         let new : IsFresh (sight_of s) = subst (λ t. IsFresh (sight_of t)) at (fresh k s long) in
         let lawful : HasHistory book_lawful book_allowed (sight_of s) =
         subst (λ t. HasHistory book_lawful book_allowed (sight_of t)) at (histories k s long) in
-        let wide : (sight_of s).span ≡ 4096 = subst (λ t. (sight_of t).span ≡ 4096) at (span k s long) in
         let site = (all.fits k s is).site in
         let number = all.numbers k s is in
         let within = slice_get_within files k orders file in
         record {
           keeps = keeps_fresh (sight_of s) new lawful
               (subst IsBookStart (sym (ap (λ (g : Site BookUsage). g.start) site)) start)
-              (ap (λ (g : Site BookUsage). g.usage.limits) site ∙ limits) (omega (arith, number, within, are.few));
+              (omega (arith, number, within, are.few));
           own = own_file (sight_of s) files k orders are file number
               (ap (λ (g : Site BookUsage). g.usage.lengths) site ∙ lengths);
           fresh = new;
-          span = wide;
         };
+    limits_are = λ k s is. ap (λ (g : Site BookUsage). g.usage.limits) (all.fits k s is).site ∙ limits_are;
   }

@@ -1,10 +1,10 @@
 -- What holds of the item with each number, and what a push makes of it.
-use Rattle.std.proofs.Common.{◌≡◌, ℕ, zero, suc, ◌<◌, ◌≤◌, List, [], ◌∷◌, ◌++◌, length, get_or, Option, Some, IfSome, Result, IfErr, refl, sym, subst, arith}
+use Rattle.std.proofs.Common.{◌≡◌, ℕ, zero, suc, ◌<◌, ◌≤◌, List, [], ◌∷◌, ◌++◌, length, get_or, Option, Some, IfSome, Result, IfErr, refl, sym, ap, ◌∙◌, subst, arith}
 use Rattle.std.specs.List.{slice_get}
 use Rattle.std.proofs.lemmas.Option.{none-some, slice_get-get_or, slice_get_read, slice_get_within}
 use Rattle.std.specs.Result.{IsErrAnd}
 use Rattle.std.proofs.lemmas.Result.{err_from_is_err_and}
-use Rattle.hm_replay.specs.Words.{file_at}
+use Rattle.hm_replay.specs.Wishes.{file_at}
 
 -- what holds of each item by its place holds of each after a push too
 pub placed : {A : Type 0} (P : ℕ → A → Type 0) (xs : List A) (y : A) → ((place : ℕ) → IfSome (slice_get xs place) (P place)) → P (length xs) y
@@ -46,3 +46,8 @@ item_here xs count place x counted within is = subst (λ n. slice_get xs n ≡ S
 -- what holds of an error holds of an answer with that error
 pub of_error : {T E : Type 0} (P : E → Type 0) (e : E) (r : Result T E) → IsErrAnd r (λ y. y ≡ e) → P e → IfErr r P
 of_error P e r is h = let p = err_from_is_err_and r is in subst (λ s. IfErr s P) (sym p.1) (subst P (sym p.2) h)
+
+-- what a list has at a place within it stands there
+pub place_here : {A : Type 0} (xs : List A) (n place : ℕ) (d : A) → n ≡ place → place < length xs
+    → slice_get xs n ≡ Some (get_or xs place d)
+place_here xs n place d is within = ap (slice_get xs) is ∙ slice_get-get_or xs place d within

@@ -13,12 +13,12 @@ use Rattle.hm_orders.specs.Interleaving.{ArePartsOf, Interleaves, dones_part}
 use Rattle.hm_model.specs.declared.entry.Entry.{Entry}
 use Rattle.hm_model.specs.History.{store_of}
 use Rattle.hm_book.specs.declared.limits.Limits.{Limits}
-use Rattle.hm_book.specs.Limits.{no_limits}
 use Rattle.hm_book.specs.Run.{BookState, done_of, dones_of, empty_state, rows_by_file, state_after, state_after_all}
 use Rattle.hm_book.proofs.Parts.{dones_part-append, rows-interleaved}
 use Rattle.hm_agreement.specs.Spelled.{spelled}
 use Rattle.hm_agreement.specs.Told.{told_on}
 use Rattle.hm_desk.specs.declared.desk.Worked.TheVariants.{Finished}
+use Rattle.hm_words.specs.declared.asked.Settings.{Settings}
 use Rattle.hm_desk.specs.Progress.{dones_seen, last_root, state_seen}
 use Rattle.hm_replay.specs.declared.conclusion.Came.{Came}
 use Rattle.hm_replay.specs.Concluding.{CameTo, HasEnded, HasFinished, HaveCome, TellsAll}
@@ -97,41 +97,42 @@ roots_rise limits state (order ∷ orders) =
     AllPairs-cons (λ a b. a.root < b.root) (done_of limits state order) (dones_of limits next orders)
     (roots_from limits next (state.applied + 1) orders (omega arith)) (roots_rise limits next orders)
 
-module _ (files : List (List Order)) (history : List Entry) (came : List Came) (to : CameTo files history came) where
+module _ (settings : Settings) (files : List (List Order)) (history : List Entry) (came : List Came)
+    (to : CameTo settings files history came) where
   -- what callers note are the parts of what became of all orders
-  pub are_parts : ArePartsOf (map (λ c. c.progress.done) came) (dones_seen no_limits history)
+  pub are_parts : ArePartsOf (map (λ c. c.progress.done) came) (dones_seen settings.limits history)
   are_parts = record {
     parts = λ k part is. part_is k part is;
     others =
-        subst (λ (n : ℕ). All (λ done. (0 < done.file) × (done.file ≤ n)) (dones_seen no_limits history))
+        subst (λ (n : ℕ). All (λ done. (0 < done.file) × (done.file ≤ n)) (dones_seen settings.limits history))
         (sym (length-map came (λ (c : Came). c.progress.done) ∙ to.count))
-        (done_files (length files) no_limits empty_state (spelled history) to.others);
-    rising = roots_rise no_limits empty_state (spelled history);
+        (done_files (length files) settings.limits empty_state (spelled history) to.others);
+    rising = roots_rise settings.limits empty_state (spelled history);
   }
     where
       noted : List (List Done)
       noted = map (λ c. c.progress.done) came
 
       part_is : (k : ℕ) (part : List Done) → slice_get (map (λ c. c.progress.done) came) k ≡ Some part
-          → dones_part (k + 1) (dones_seen no_limits history) ≡ part
+          → dones_part (k + 1) (dones_seen settings.limits history) ≡ part
       part_is k part is =
           let long = slice_get_within (map (λ (c : Came). c.progress.done) came) k part is in
           let within : k < length came = subst (λ (n : ℕ). k < n) (length-map came (λ (c : Came). c.progress.done)) long in
           let c = there came k within in
-          let file = file_of files history came to k c.0 c.1 in
+          let file = file_of settings files history came to k c.0 c.1 in
           let shown : Some part ≡ Some c.0.progress.done =
           sym is ∙ (slice_get-map (λ (c : Came). c.progress.done) came k
           ∙ ap (option_map (λ (c : Came). c.progress.done)) c.1) in
           let same : part ≡ c.0.progress.done = cc in
           sym (to.parts k file.0 c.0 file.1 c.1).done ∙ sym same
 
-module _ (files : List (List Order)) (history : List Entry) (came : List Came) (to : CameTo files history came)
-    (finished : All HasFinished came) where
+module _ (settings : Settings) (files : List (List Order)) (history : List Entry) (came : List Came)
+    (to : CameTo settings files history came) (finished : All HasFinished came) where
   abbrev orders : List Order
   orders = spelled history
 
   abbrev dones : List Done
-  dones = dones_seen no_limits history
+  dones = dones_seen settings.limits history
 
   -- a file has a caller
   caller_of : (k : ℕ) (file : List Order) → slice_get files k ≡ Some file → (c : Came) × (slice_get came k ≡ Some c)
@@ -145,7 +146,7 @@ module _ (files : List (List Order)) (history : List Entry) (came : List Came) (
       let done : c.worked ≡ Finished =
       subst HasFinished (get_or_from_slice_get came k c c is_caller)
       (finished k c (slice_get_within came k c is_caller)) in
-      subst (HasEnded file c.progress.next c.progress.told) done (to.parts k file c is_file is_caller).ended
+      subst (HasEnded settings.versions file c.progress.next c.progress.told) done (to.parts k file c is_file is_caller).ended
 
   pub interleaved : Interleaves files orders
   interleaved = record {
@@ -189,32 +190,32 @@ module _ (files : List (List Order)) (history : List Entry) (came : List Came) (
   -- behind the last order of all as many rest as its caller noted
   pub resting_is : (n : ℕ) (d : Done) (k : ℕ) (c : Came) → length dones ≡ suc n → slice_get dones n ≡ Some d
       → k + 1 ≡ d.file → slice_get came k ≡ Some c
-      → c.progress.resting ≡ length (state_after_all no_limits empty_state orders).book
+      → c.progress.resting ≡ length (state_after_all settings.limits empty_state orders).book
   resting_is n d k c long is here caller =
-      let file = file_of files history came to k c caller in
+      let file = file_of settings files history came to k c caller in
       let part = to.parts k file.0 c file.1 caller in
       let last : last_root c.progress.done ≡ length orders =
       ap last_root (part.done ∙ ap (λ (f : ℕ). dones_part f dones) here)
       ∙ (last_part dones n d long is ∙ whole_root) in
       part.resting
       ∙ ap (λ (s : BookState). length s.book)
-      (ap (λ (m : ℕ). state_seen no_limits m history) last
-      ∙ ap (state_after_all no_limits empty_state) (take_all (length orders) orders (omega arith)))
+      (ap (λ (m : ℕ). state_seen settings.limits m history) last
+      ∙ ap (state_after_all settings.limits empty_state) (take_all (length orders) orders (omega arith)))
     where
-      root_of : (os : List Order) → length (dones_of no_limits empty_state os) ≡ suc n
-          → last_root (dones_of no_limits empty_state os) ≡ length os
+      root_of : (os : List Order) → length (dones_of settings.limits empty_state os) ≡ suc n
+          → last_root (dones_of settings.limits empty_state os) ≡ length os
       root_of [] none = absurd (omega (arith, none))
-      root_of (o ∷ os) some = let r = last_run no_limits empty_state o os in omega (arith, r)
+      root_of (o ∷ os) some = let r = last_run settings.limits empty_state o os in omega (arith, r)
 
       whole_root : last_root dones ≡ length orders
       whole_root = root_of orders long
 
   -- of no orders none rest
-  pub none_rest : length dones ≡ 0 → 0 ≡ length (state_after_all no_limits empty_state orders).book
+  pub none_rest : length dones ≡ 0 → 0 ≡ length (state_after_all settings.limits empty_state orders).book
   none_rest none = go orders none
     where
-      go : (os : List Order) → length (dones_of no_limits empty_state os) ≡ 0
-          → 0 ≡ length (state_after_all no_limits empty_state os).book
+      go : (os : List Order) → length (dones_of settings.limits empty_state os) ≡ 0
+          → 0 ≡ length (state_after_all settings.limits empty_state os).book
       go [] h = refl
       go (o ∷ os) h = absurd (omega (arith, h))
 
@@ -223,11 +224,11 @@ module _ (files : List (List Order)) (history : List Entry) (came : List Came) (
   last_file n d is =
       let P : Done → Type 0 = λ done. (0 < done.file) × (done.file ≤ length files) in
       subst P (get_or_from_slice_get dones n d d is)
-      (done_files (length files) no_limits empty_state orders to.others n d (slice_get_within dones n d is))
+      (done_files (length files) settings.limits empty_state orders to.others n d (slice_get_within dones n d is))
 
   pub tells_all : (report : Report) → report.done ≡ dones → report.board ≡ map (λ c. c.progress.told) came
-      → report.resting ≡ length (state_after_all no_limits empty_state orders).book
-      → TellsAll files history report
+      → report.resting ≡ length (state_after_all settings.limits empty_state orders).book
+      → TellsAll settings.limits files history report
   tells_all report done board resting = record {
     interleaves = interleaved;
     report_is = λ i. record { done = done i; board = (board ∙ board_is) i; resting = resting i };
@@ -241,16 +242,16 @@ module _ (files : List (List Order)) (history : List Entry) (came : List Came) (
       → (length report.done ≡ 0 → report.resting ≡ 0)
       → ((n k rest : ℕ) (last : Done) → length report.done ≡ n + 1 → slice_get report.done n ≡ Some last
       → k + 1 ≡ last.file → slice_get resting k ≡ Some rest → report.resting ≡ rest)
-      → report.board ≡ map (λ c. c.progress.told) came → TellsAll files history report
+      → report.board ≡ map (λ c. c.progress.told) came → TellsAll settings.limits files history report
   whole report parts resting parts_are resting_are merged none last board =
       tells_all report done board (rest_is (length dones) refl)
     where
       done : report.done ≡ dones
       done = merged dones (subst (λ (l : List (List Done)). ArePartsOf l dones) (sym parts_are)
-          (are_parts files history came to))
+          (are_parts settings files history came to))
 
       rest_is : (n : ℕ) → length dones ≡ n
-          → report.resting ≡ length (state_after_all no_limits empty_state orders).book
+          → report.resting ≡ length (state_after_all settings.limits empty_state orders).book
       rest_is zero e = none (ap length done ∙ e) ∙ none_rest e
       rest_is (suc n) e =
           let d = there dones n (omega (arith, e)) in
@@ -272,12 +273,12 @@ pub noted_files : (came : List Came) → HaveCome came → (parts : List (List D
     → ((ds : List Done) → ArePartsOf parts ds → all ≡ ds)
     → All (λ done. (0 < done.file) × (done.file ≤ length resting)) all
 noted_files came h parts resting all parts_are resting_are merged =
-    let to = h.2 in
-    let dones = dones_seen no_limits h.1 in
+    let to = h.3 in
+    let dones = dones_seen h.0.limits h.2 in
     let same : all ≡ dones = merged dones
-    (subst (λ (l : List (List Done)). ArePartsOf l dones) (sym parts_are) (are_parts h.0 h.1 came to)) in
-    let long : length h.0 ≡ length resting =
+    (subst (λ (l : List (List Done)). ArePartsOf l dones) (sym parts_are) (are_parts h.0 h.1 h.2 came to)) in
+    let long : length h.1 ≡ length resting =
     sym (ap length resting_are ∙ (length-map came (λ (c : Came). c.progress.resting) ∙ to.count)) in
     subst (All (λ done. (0 < done.file) × (done.file ≤ length resting))) (sym same)
     (subst (λ (n : ℕ). All (λ done. (0 < done.file) × (done.file ≤ n)) dones) long
-    (done_files (length h.0) no_limits empty_state (spelled h.1) to.others))
+    (done_files (length h.1) h.0.limits empty_state (spelled h.2) to.others))

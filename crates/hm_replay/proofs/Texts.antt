@@ -4,7 +4,7 @@ use Rattle.std.specs.Option.{option_map}
 use Rattle.std.specs.List.{slice_get}
 use Rattle.std.proofs.lemmas.List.{length-map, map-append}
 use Rattle.std.proofs.lemmas.Option.{slice_get-map, slice_get_within}
-use Rattle.hm_replay.specs.Words.{file_at}
+use Rattle.hm_replay.specs.Wishes.{file_at}
 use Rattle.hm_replay.specs.Loading.{IsCause, IsReached, IsTooLong, IsWithin, bytes_at, most_bytes}
 use Rattle.hm_replay.specs.Reading.{AreTexts, IsText, IsUnread}
 use Rattle.hm_replay.specs.Refusals.{file_unread, grown_by, names_failed, unread_of}

@@ -5,12 +5,13 @@ use Rattle.hm_orders.specs.declared.report.Report.{Report}
 use Rattle.hm_orders.specs.Interleaving.{Interleaves, dones_part, part_of}
 use Rattle.hm_model.specs.declared.entry.Entry.{Entry}
 use Rattle.hm_model.specs.History.{store_of}
-use Rattle.hm_book.specs.Limits.{no_limits}
+use Rattle.hm_book.specs.declared.limits.Limits.{Limits}
 use Rattle.hm_book.specs.Run.{report_of, rows_by_file}
 use Rattle.hm_agreement.specs.Spelled.{spelled}
 use Rattle.hm_agreement.specs.Told.{told_on}
 use Rattle.hm_cellbook.specs.declared.usage.BookUsage.{BookUsage}
 use Rattle.hm_cells.specs.Closing.{Ended}
+use Rattle.hm_words.specs.declared.asked.Settings.{Settings}
 use Rattle.hm_desk.specs.declared.desk.Worked.{Worked}
 use Rattle.hm_desk.specs.declared.desk.Worked.TheVariants.{Finished, Stalled, Memory}
 use Rattle.hm_desk.specs.Progress.{dones_seen, last_root, state_seen}
@@ -20,39 +21,40 @@ use Rattle.hm_replay.specs.declared.conclusion.FullAt.{FullAt}
 use Rattle.hm_replay.specs.declared.conclusion.Stopped.{Stopped}
 use Rattle.hm_replay.specs.declared.conclusion.Stopped.TheVariants as stopped
 
--- work that ended well has applied and told all orders, and where it stalled all 4096 places of the
--- caller's region were used
-abbrev pub HasEnded : List Order → ℕ → ℕ → Worked → Type 0
-HasEnded orders next told Finished = (next ≡ length orders) × (told ≡ next)
-HasEnded orders next told (Stalled at used free) = 4096 ≤ used
-HasEnded orders next told Memory = Unit {0}
+-- work that ended well has applied and told all orders, and where it stalled all places of the
+-- caller's region were used, of which there are as many as a region has versions
+abbrev pub HasEnded : ℕ → List Order → ℕ → ℕ → Worked → Type 0
+HasEnded versions orders next told Finished = (next ≡ length orders) × (told ≡ next)
+HasEnded versions orders next told (Stalled at used free) = versions ≤ used
+HasEnded versions orders next told Memory = Unit {0}
 
 -- in the whole history a caller's part is the front of its file's orders that it has applied; what
 -- it notes became of them is what did; and so it is with what it told the board, and with how many
 -- orders rested after its last
-pub record HasPart (history : List Entry) (q : ℕ) (orders : List Order) (came : Came)
-    : Type 0 where
+pub record HasPart (settings : Settings) (history : List Entry) (q : ℕ) (orders : List Order)
+    (came : Came) : Type 0 where
   pub within : came.progress.next ≤ length orders
   pub applied : part_of (q + 1) (spelled history) ≡ take came.progress.next orders
-  pub done : came.progress.done ≡ dones_part (q + 1) (dones_seen no_limits history)
+  pub done : came.progress.done ≡ dones_part (q + 1) (dones_seen settings.limits history)
   pub told : told_on (store_of history) q ≡ came.progress.told
   pub resting : came.progress.resting
-      ≡ length (state_seen no_limits (last_root came.progress.done) history).book
-  pub ended : HasEnded orders came.progress.next came.progress.told came.worked
+      ≡ length (state_seen settings.limits (last_root came.progress.done) history).book
+  pub ended : HasEnded settings.versions orders came.progress.next came.progress.told came.worked
 
 -- the callers' work came to this history: each order that it spells is of one of the files, and
 -- each caller has its part
-pub record CameTo (files : List (List Order)) (history : List Entry) (came : List Came)
-    : Type 0 where
+pub record CameTo (settings : Settings) (files : List (List Order)) (history : List Entry)
+    (came : List Came) : Type 0 where
   pub are : AreOfFiles files
   pub count : length came ≡ length files
   pub others : All (λ order. (0 < order.file) × (order.file ≤ length files)) (spelled history)
   pub parts : (k : ℕ) (orders : List Order) (c : Came) → slice_get files k ≡ Some orders
-      → slice_get came k ≡ Some c → HasPart history k orders c
+      → slice_get came k ≡ Some c → HasPart settings history k orders c
 
--- it came to some history of some files
+-- it came to some history of some files, under some settings
 abbrev pub HaveCome : List Came → Type 0
-HaveCome came = (files : List (List Order)) × (history : List Entry) × CameTo files history came
+HaveCome came = (settings : Settings) × (files : List (List Order)) × (history : List Entry)
+    × CameTo settings files history came
 
 -- a caller has finished
 abbrev pub HasFinished : Came → Type 0
@@ -60,10 +62,10 @@ HasFinished came = came.worked ≡ Finished
 
 -- a report tells of the files where the history spells an interleaving of them, the report is that
 -- of its run, and the board's last numbers are the report's
-pub record TellsAll (files : List (List Order)) (history : List Entry) (report : Report)
-    : Type 0 where
+pub record TellsAll (limits : Limits) (files : List (List Order)) (history : List Entry)
+    (report : Report) : Type 0 where
   pub interleaves : Interleaves files (spelled history)
-  pub report_is : report ≡ report_of no_limits (length files) (spelled history)
+  pub report_is : report ≡ report_of limits (length files) (spelled history)
   pub board : (q : ℕ) → q < length files → told_on (store_of history) q
       ≡ slice_index (rows_by_file (length files) (spelled history)) q
 
@@ -91,9 +93,10 @@ pub record IsFirstFull (files : List (List Order)) (e : Ended BookUsage) (at : F
 -- a heap was full for a caller when it last had no room: all places of its region were used; the
 -- two stamps are the common object's at the end, which is how many orders were applied, and nothing
 -- was being settled
-pub record WasFullAt (files : List (List Order)) (history : List Entry) (at : FullAt) : Type 0 where
+pub record WasFullAt (versions : ℕ) (files : List (List Order)) (history : List Entry)
+    (at : FullAt) : Type 0 where
   pub caller : at.caller < length files
   pub settling : at.settling ≡ false
   pub root : at.root ≡ length (spelled history)
   pub settled : at.settled ≡ at.root
-  pub used : 4096 ≤ at.used
+  pub used : versions ≤ at.used

@@ -4,10 +4,8 @@ use Rattle.hm_edge.specs.Faults.{count_after}
 use Rattle.hm_edge.specs.Sinks.{bytes_after}
 use Rattle.hm_orders.specs.declared.order.Order.{Order}
 use Rattle.hm_orders.specs.Interleaving.{Interleaves}
-use Rattle.hm_orders.specs.ReportText.{report_lines, report_text}
 use Rattle.hm_model.specs.History.{store_of}
-use Rattle.hm_book.specs.Limits.{no_limits}
-use Rattle.hm_book.specs.Run.{report_of, rows_by_file}
+use Rattle.hm_book.specs.Run.{rows_by_file}
 use Rattle.hm_agreement.specs.Spelled.{IsBookStart, spelled}
 use Rattle.hm_agreement.specs.Told.{told_on}
 use Rattle.hm_cellbook.specs.declared.usage.BookUsage.{BookUsage}
@@ -16,16 +14,19 @@ use Rattle.hm_moves.specs.declared.part.Site.{Site}
 use Rattle.hm_moves.specs.Good.{Core}
 use Rattle.hm_cells.specs.Facts.{Facts}
 use Rattle.hm_cells.specs.Closing.{CarriesPass, Ended, EndsIn, HeldToTheEnd, IsWholeHistory}
-use Rattle.hm_replay.specs.Loading.{AreHeld}
+use Rattle.hm_words.specs.declared.asked.Settings.{Settings}
+use Rattle.hm_words.specs.Asked.{Wish}
+use Rattle.hm_replay.specs.Wishes.{callers_of, lines_on, settings_of, text_on}
+use Rattle.hm_replay.specs.Loading.{AreAsked}
 
--- the heap of a replay has a caller for each file, and each caller 4 regions of 4096 versions; it
--- starts with an empty book, without limits
-pub record IsBookHeap (files : ℕ) (g : Site BookUsage) : Type 0 where
+-- the heap of a replay has a caller for each file, and each caller 4 regions with as many versions
+-- as the settings say; it starts with an empty book, under the settings' limits
+pub record IsBookHeap (settings : Settings) (files : ℕ) (g : Site BookUsage) : Type 0 where
   pub callers : g.shape.callers ≡ files
   pub regions : g.shape.regions ≡ 4
-  pub versions : g.shape.versions ≡ 4096
+  pub versions : g.shape.versions ≡ settings.versions
   pub start : IsBookStart g.start
-  pub limits : g.usage.limits ≡ no_limits
+  pub limits : g.usage.limits ≡ settings.limits
 
 -- the calls of a caller stand in the history of closed cells, each once: what its pass had seen
 -- begins that history, and the pass's own entries are the caller's there, in order
@@ -38,42 +39,38 @@ pub record HasCallsOf (c : Core BookUsage) (q : ℕ) (e : Ended BookUsage) : Typ
 -- closed cells are those of a replay of so many files where they were such a heap; where all that
 -- their callers made is one lawful history, in which each caller's calls stand; and where the rule
 -- of their Table held to the end, so that no version in reach was given out again
-pub record IsReplay (files : ℕ) (e : Ended BookUsage) : Type 0 where
-  pub heap : IsBookHeap files e.site
+pub record IsReplay (settings : Settings) (files : ℕ) (e : Ended BookUsage) : Type 0 where
+  pub heap : IsBookHeap settings files e.site
   pub history : IsWholeHistory book_lawful book_allowed e
   pub held : HeldToTheEnd book_lawful book_allowed e
   pub calls : (q : ℕ) → q < files → HasCallsOf held.core q e
 
--- the report text of orders of so many files
-abbrev pub text_of : ℕ → List Order → List ℕ
-text_of files orders = report_text (report_of no_limits files orders)
+-- closed cells are those of what was asked for
+abbrev pub IsReplayOf : Wish → Ended BookUsage → Type 0
+IsReplayOf wish e = IsReplay (settings_of wish) (callers_of wish) e
 
--- how many lines it has
-abbrev pub line_count : ℕ → List Order → ℕ
-line_count files orders = length (report_lines (report_of no_limits files orders))
-
--- the named files were replayed: what the closed cells' history spells interleaves their orders,
--- which are those that their bytes hold, and the board tells how many each file has
-pub record Replayed (told : List ℕ → Option (List ℕ)) (names : List (List ℕ))
+-- what was asked for was replayed: what the closed cells' history spells interleaves the lists of
+-- orders, those that the bytes of each named file hold or the one that is made from the number, and
+-- the board tells how many each has
+pub record Replayed (told : List ℕ → Option (List ℕ)) (wish : Wish)
     (closed : Option (Ended BookUsage)) : Type 0 where
   pub cells : Ended BookUsage
   pub closed_are : closed ≡ Some cells
-  pub heap : IsReplay (length names) cells
+  pub heap : IsReplayOf wish cells
   pub files : List (List Order)
-  pub held : AreHeld told names files
+  pub asked : AreAsked told wish files
   pub interleaves : Interleaves files (spelled cells.history)
-  pub board : (q : ℕ) → q < length names → told_on (store_of cells.history) q
-      ≡ slice_index (rows_by_file (length names) (spelled cells.history)) q
+  pub board : (q : ℕ) → q < callers_of wish → told_on (store_of cells.history) q
+      ≡ slice_index (rows_by_file (callers_of wish) (spelled cells.history)) q
 
--- and a sink got the report text of that list, the fills of a one-thread book among it, behind what
--- it had
-pub record Headline (told : List ℕ → Option (List ℕ)) (names : List (List ℕ))
+-- and a sink got the text of that list, a report with the fills of a one-thread book or a summary,
+-- behind what it had
+pub record Headline (told : List ℕ → Option (List ℕ)) (wish : Wish)
     (closed : Option (Ended BookUsage)) (old new : Option (List ℕ)) : Type 0 where
-  pub replayed : Replayed told names closed
-  pub written : new
-      ≡ bytes_after (text_of (length names) (spelled replayed.cells.history)) old
+  pub replayed : Replayed told wish closed
+  pub written : new ≡ bytes_after (text_on wish (spelled replayed.cells.history)) old
 
--- each line of the report was one put, in a sink that counts its puts
-abbrev pub PutsReport : ℕ → Ended BookUsage → ℕ → ℕ → Type 0
-PutsReport files e puts puts_after =
-    puts_after ≡ count_after (line_count files (spelled e.history)) puts
+-- each line of that text was one put, in a sink that counts its puts
+abbrev pub PutsText : Wish → Ended BookUsage → ℕ → ℕ → Type 0
+PutsText wish e puts puts_after =
+    puts_after ≡ count_after (length (lines_on wish (spelled e.history))) puts

@@ -1,4 +1,4 @@
-pub mod Words
+pub mod Wishes
 pub mod Loading
 pub mod Reading
 pub mod Refusals

@@ -1,10 +1,13 @@
 -- What is loaded from the files that the words name, and why loading them is refused.
-use Rattle.std.specs.Prelude.{◌≡◌, ℕ, ◌<◌, ◌≤◌, List, length, Option, IfSome, Ok, Err, option_and_then}
+use Rattle.std.specs.Prelude.{◌≡◌, ℕ, ◌<◌, ◌≤◌, List, [], ◌∷◌, map, length, Option, IfSome, Ok, Err, option_and_then}
 use Rattle.hm_orders.specs.declared.order.Order.{Order}
 use Rattle.hm_orders.specs.declared.read.TextRefused.{TextRefused}
 use Rattle.hm_orders.specs.Orders.{AreRowsOf}
 use Rattle.hm_orders.specs.Rows.{most_rows, orders_held}
-use Rattle.hm_replay.specs.Words.{file_at}
+use Rattle.hm_generator.specs.Generated.{orders_made}
+use Rattle.hm_words.specs.Asked.{Wish, generate, replay}
+use Rattle.hm_replay.specs.declared.task.Task.{Task}
+use Rattle.hm_replay.specs.Wishes.{file_at, form_of, settings_of}
 use Rattle.hm_replay.specs.declared.refusal.Refused.{Refused}
 use Rattle.hm_replay.specs.declared.refusal.Refused.TheVariants.{Memory, Words, Files, Text, Read, Write, Full, Long}
 
@@ -56,6 +59,18 @@ pub record AreHeld (told : List ℕ → Option (List ℕ)) (names : List (List �
   pub count : length files ≡ length names
   pub each : (file : ℕ) → IfSome (file_at files file)
       (λ orders. IfSome (bytes_at told names file) (IsHeld file orders))
+
+-- lists of orders are what is asked for where what the shelf tells of each file holds them, or where
+-- there is one, which is made from the number
+abbrev pub AreAsked : (List ℕ → Option (List ℕ)) → Wish → List (List Order) → Type 0
+AreAsked told (replay settings names) files = AreHeld told names files
+AreAsked told (generate versions number count) files = files ≡ orders_made number count ∷ []
+
+-- a task is what is asked for
+pub record IsTaskOf (told : List ℕ → Option (List ℕ)) (task : Task) (wish : Wish) : Type 0 where
+  pub settings : task.settings ≡ settings_of wish
+  pub form : task.form ≡ form_of wish
+  pub files : AreAsked told wish (map (λ orders. orders.items) task.files.items)
 
 -- a file is reached where it has a name and those before it are no longer than a file may be
 pub record IsReached (told : List ℕ → Option (List ℕ)) (names : List (List ℕ)) (file : ℕ)

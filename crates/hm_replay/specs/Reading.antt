@@ -3,7 +3,7 @@ use Rattle.std.specs.Prelude.{◌≡◌, ℕ, ◌<◌, ◌≤◌, List, length, 
 use Rattle.hm_orders.specs.declared.order.Order.{Order}
 use Rattle.hm_orders.specs.declared.read.TextRefused.{TextRefused}
 use Rattle.hm_orders.specs.Rows.{orders_held}
-use Rattle.hm_replay.specs.Words.{file_at}
+use Rattle.hm_replay.specs.Wishes.{file_at}
 use Rattle.hm_replay.specs.Loading.{AreOfFile, IsWithin, bytes_at, most_bytes}
 use Rattle.hm_replay.specs.declared.refusal.Refused.{Refused}
 use Rattle.hm_replay.specs.declared.refusal.Refused.TheVariants.{Memory, Words, Files, Text, Read, Write, Full, Long}

@@ -12,9 +12,16 @@ use Rattle.hm_orders.specs.declared.write.WriteRefused.TheVariants as report
 use Rattle.hm_orders.specs.declared.read.Part.{Part}
 use Rattle.hm_orders.specs.declared.read.Part.TheVariants.{Fields, Kind, Id, Side, Price, Quantity, TooMany}
 use Rattle.hm_orders.specs.ReportText.{AddsFront}
-use Rattle.hm_replay.specs.Words.{file_at}
+use Rattle.hm_words.specs.declared.asked.WordsRefused.{WordsRefused}
+use Rattle.hm_words.specs.declared.asked.WordsRefused.TheVariants as word
+use Rattle.hm_replay.specs.Wishes.{file_at}
 use Rattle.hm_replay.specs.declared.refusal.Refused.{Refused}
 use Rattle.hm_replay.specs.declared.refusal.Refused.TheVariants.{Memory, Words, Files, Text, Read, Write, Full, Long}
+
+-- words that were not read
+abbrev pub refused_words : WordsRefused → Refused
+refused_words word.Refused = Words
+refused_words word.Memory = Memory
 
 -- a read of a file from the shelf that was refused
 abbrev pub refused_shelf : ℕ → ShelfRefused → Refused

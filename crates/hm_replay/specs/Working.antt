@@ -2,7 +2,7 @@
 use Rattle.std.specs.Prelude.{◌≡◌, ℕ, List, length, Some, IfSome, slice_get}
 use Rattle.hm_orders.specs.declared.order.Order.{Order}
 use Rattle.hm_model.specs.Sight.{IsFresh, IsSameCaller}
-use Rattle.hm_book.specs.Limits.{no_limits}
+use Rattle.hm_book.specs.declared.limits.Limits.{Limits}
 use Rattle.hm_cellbook.specs.declared.usage.BookUsage.{BookUsage}
 use Rattle.hm_cells.specs.Facts.{Facts, sight_of}
 use Rattle.hm_heap.specs.Mutators.{AreSameCallers}
@@ -18,28 +18,33 @@ pub record Working : Type 0 where
   pub orders : List Order
   pub came : Came
 
--- a pass is ready for the orders of its file where it is fresh, its heap has an empty book without
--- limits, and each of its regions has 4096 places
+-- a pass is ready for the orders of its file where it is fresh, and its heap has an empty book
 pub record IsReady (s : Facts BookUsage) (orders : List Order) : Type 0 where
-  pub keeps : KeepsBook no_limits (sight_of s)
+  pub keeps : KeepsBook (sight_of s).usage.limits (sight_of s)
   pub own : AreOwn (sight_of s) orders
   pub fresh : IsFresh (sight_of s)
-  pub span : (sight_of s).span ≡ 4096
+
+-- a job is under these limits where its heap is
+abbrev pub IsUnder : Limits → Working → Type 0
+IsUnder limits w = (sight_of w.pass).usage.limits ≡ limits
 
 -- a caller is at work on a heap, and what it notes is so; where it stalled, its region is used up
 pub record IsAtWork (w : Working) : Type 0 where
-  pub keeps : KeepsBook no_limits (sight_of w.pass)
+  pub keeps : KeepsBook (sight_of w.pass).usage.limits (sight_of w.pass)
   pub own : AreOwn (sight_of w.pass) w.orders
-  pub span : (sight_of w.pass).span ≡ 4096
   pub come : HasCome (sight_of w.pass) w.orders w.came.progress
-  pub ended : HasEnded w.orders w.came.progress.next w.came.progress.told w.came.worked
+  pub ended : HasEnded (sight_of w.pass).span w.orders w.came.progress.next w.came.progress.told
+      w.came.worked
   pub up : IfStalled w.came.worked (λ place. IsUsedUp (sight_of w.pass))
 
--- each pass is ready for the orders of its file
-pub record AreReady (passes : List (Facts BookUsage)) (files : List (List Order)) : Type 0 where
+-- each pass is ready for the orders of its file, under these limits
+pub record AreReady (limits : Limits) (passes : List (Facts BookUsage))
+    (files : List (List Order)) : Type 0 where
   pub count : length passes ≡ length files
   pub each : (k : ℕ) (s : Facts BookUsage) (orders : List Order) → slice_get passes k ≡ Some s
       → slice_get files k ≡ Some orders → IsReady s orders
+  pub limits_are : (k : ℕ) (s : Facts BookUsage) → slice_get passes k ≡ Some s
+      → (sight_of s).usage.limits ≡ limits
 
 -- jobs have each a pass and the orders of its file, at the same place
 abbrev pub AreJobs : List (Facts BookUsage) → List (List Order) → List Working → Type 0

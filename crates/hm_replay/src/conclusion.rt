@@ -3,6 +3,7 @@ ghost use Rattle.std.specs.Prelude.{◌≡◌, ◌+◌, ℕ, List, All, IfOk, If
 ghost use Rattle.hm_orders.specs.declared.order.Order.{Order};
 ghost use Rattle.hm_model.specs.declared.entry.Entry.{Entry};
 ghost use Rattle.hm_agreement.specs.Spelled.{spelled};
+ghost use Rattle.hm_words.specs.declared.asked.Settings.{Settings};
 ghost use Rattle.hm_replay.specs.Concluding.{CameTo, HasFinished, HasStalled, HaveCome, IfFull, TellsAll, WasFullAt};
 
 use crate::report::report_of;
@@ -86,10 +87,12 @@ impl From<hm_cells::Memory> for Stopped {
 /// The report, where all callers have finished. Else the first that has not says why there is none.
 pub(crate) fn conclude(alloc: Global, came: Vec<Came>) -> Result<Report, Stopped>
     requires come { HaveCome came.items }
-    ensures report { IfOk result (λ report. (files : List (List Order)) (history : List Entry)
-        → CameTo files history came.items → TellsAll files history report) }
-    ensures full { IfErr result (IfFull (λ at. (files : List (List Order)) (history : List Entry)
-        → CameTo files history came.items → WasFullAt files history at)) }
+    ensures report { IfOk result (λ report. (settings : Settings) (files : List (List Order))
+        (history : List Entry) → CameTo settings files history came.items
+        → TellsAll settings.limits files history report) }
+    ensures full { IfErr result (IfFull (λ at. (settings : Settings) (files : List (List Order))
+        (history : List Entry) → CameTo settings files history came.items
+        → WasFullAt settings.versions files history at)) }
     ensures stalled { IfErr result (IfFull (HasStalled came.items)) }
 {
     if let Err(stopped) = all_finished(came.as_slice()) {
@@ -102,8 +105,9 @@ pub(crate) fn conclude(alloc: Global, came: Vec<Came>) -> Result<Report, Stopped
 pub(crate) fn all_finished(came: &[Came]) -> Result<(), Stopped>
     requires come { HaveCome came.now }
     ensures finished { OnOk result (All HasFinished came.now) }
-    ensures full { IfErr result (IfFull (λ at. (files : List (List Order)) (history : List Entry)
-        → CameTo files history came.now → WasFullAt files history at)) }
+    ensures full { IfErr result (IfFull (λ at. (settings : Settings) (files : List (List Order))
+        (history : List Entry) → CameTo settings files history came.now
+        → WasFullAt settings.versions files history at)) }
     ensures stalled { IfErr result (IfFull (HasStalled came.now)) }
 {
     let root = orders_applied(came);
@@ -129,8 +133,8 @@ pub(crate) fn all_finished(came: &[Came]) -> Result<(), Stopped>
 /// How many orders all callers have applied.
 fn orders_applied(came: &[Came]) -> u64
     requires come { HaveCome came.now }
-    ensures { (files : List (List Order)) (history : List Entry)
-        → CameTo files history came.now → result ≡ length (spelled history) }
+    ensures { (settings : Settings) (files : List (List Order)) (history : List Entry)
+        → CameTo settings files history came.now → result ≡ length (spelled history) }
 {
     let mut applied = 0;
     for c in came {

@@ -1,8 +1,7 @@
 //! One caller's part of a replay.
 ghost use Rattle.std.specs.Prelude.{◌≡◌};
-ghost use Rattle.hm_book.specs.Limits.{no_limits};
 ghost use Rattle.hm_ops.specs.Resting.{IsResting};
-ghost use Rattle.hm_replay.specs.Working.{IsAtWork, IsReady, Works};
+ghost use Rattle.hm_replay.specs.Working.{IsAtWork, IsReady, IsUnder, Works};
 
 use crate::conclusion::Came;
 use hm_cellbook::BookUsage;
@@ -65,7 +64,7 @@ impl<'h> Job<'h> {
 
     /// Applies the orders as far as the caller comes.
     pub fn work<F: Admission, G: Gate>(&mut self, alloc: Global, desk: &Desk<F>, gate: &G)
-        requires desk { desk.now ≡ no_limits }
+        requires { IsUnder desk.now self.old }
         ensures { Works self.old self.new }
     {
         self.came.worked = desk.work(

@@ -4,7 +4,7 @@
 //! book in cells, and all callers work side by side:
 //!
 //! ```text
-//!   words --> load: all files are read, then their rows
+//!   words --> what they ask for --> load: all files are read, then their rows, or orders are made from a number
 //!               |
 //!             replay: a heap with an empty book, and a job for each file
 //!               |         job 0: a mutator, its orders    --.
@@ -14,7 +14,7 @@
 //!               |
 //!             conclude: what became of the orders of each file, merged by root number
 //!               |
-//!             write_report
+//!             the report is written, or a summary of it
 //! ```
 //!
 //! What a job's caller notes is tied to what it has seen (`hm_desk`), what it has seen begins the history of the closed
@@ -30,7 +30,7 @@ mod outcome;
 mod refusal;
 mod replay;
 mod report;
-mod words;
+mod task;
 
 pub use conclusion::FullAt;
 pub use outcome::{Outcome, run, tell};

@@ -1,11 +1,12 @@
 //! What can go wrong in a replay, and what is said of it.
 ghost use Rattle.std.specs.Prelude.{◌≡◌, ◌≤◌, ◌++◌, length, decimal};
 ghost use Rattle.hm_replay.specs.declared.refusal.Refused.TheVariants as variant;
-ghost use Rattle.hm_replay.specs.Refusals.{line_of, message_of, part_name, refused_shelf, refused_text, refused_write, status_of};
+ghost use Rattle.hm_replay.specs.Refusals.{line_of, message_of, part_name, refused_shelf, refused_text, refused_words, refused_write, status_of};
 
 use arrayvec::ArrayString;
 use hm_edge::ShelfRefused;
 use hm_orders::{Part, ReadRefused, TextRefused, WriteRefused};
+use hm_words::WordsRefused;
 use itoa::Buffer;
 use std::alloc::{AllocError, AllocFailed};
 
@@ -17,7 +18,7 @@ pub type Line = ArrayString<64>;
 pub enum Refused {
     /// Memory ran out.
     Memory,
-    /// The words name no file.
+    /// The words ask for nothing that there is.
     Words,
     /// The words name so many files, and at most 8 are replayed.
     Files(u64),
@@ -48,6 +49,25 @@ impl From<AllocError> for Refused {
     ghost from_gives = { λ _ refused. refused ≡ variant.Memory };
 
     fn from(_refusal: AllocError) -> Refused {
+        Refused::Memory
+    }
+}
+
+impl From<WordsRefused> for Refused {
+    ghost from_gives = { λ refusal refused. refused ≡ refused_words refusal };
+
+    fn from(refusal: WordsRefused) -> Refused {
+        match refusal {
+            WordsRefused::Refused => Refused::Words,
+            WordsRefused::Memory => Refused::Memory,
+        }
+    }
+}
+
+impl From<hm_edge::Memory> for Refused {
+    ghost from_gives = { λ _ refused. refused ≡ variant.Memory };
+
+    fn from(_memory: hm_edge::Memory) -> Refused {
         Refused::Memory
     }
 }

@@ -1,17 +1,16 @@
 //! From the orders of several files to their report.
 ghost use Rattle.std.specs.Prelude.{◌≡◌, ◌<◌, ◌≤◌, [], vec_capacity, slice_index_or, ℕ, All, IfOk, IfErr, IfSome, IsSome, List, map, length, Some, None, Err};
 ghost use Rattle.hm_orders.specs.declared.order.Order.{Order};
-ghost use Rattle.hm_book.specs.Limits.{no_limits};
+ghost use Rattle.hm_book.specs.declared.limits.Limits.{Limits};
 ghost use Rattle.hm_cells.specs.Closing.{AreAll};
 ghost use Rattle.hm_cells.specs.Facts.{IsAtRest};
 ghost use Rattle.hm_replay.specs.Loading.{AreOfFiles};
 ghost use Rattle.hm_replay.specs.Headline.{IsBookHeap, IsReplay};
 ghost use Rattle.hm_replay.specs.Concluding.{IfFull, IsFirstFull, TellsAll, WasFullAt};
-ghost use Rattle.hm_replay.specs.Working.{AreJobs, AreReady, HaveWorked, IsAtWork, Working, Works};
+ghost use Rattle.hm_replay.specs.Working.{AreJobs, AreReady, HaveWorked, IsAtWork, IsUnder, Working, Works};
 
 use crate::conclusion::{Came, Stopped, conclude};
 use crate::job::Job;
-use hm_book::Limits;
 use hm_cellbook::{BookUsage, Lengths};
 use hm_cells::{Closed, Pass};
 use hm_desk::{Admission, Desk, Gate};
@@ -19,11 +18,9 @@ use hm_heap::{Heap, close};
 use hm_model::Start;
 use hm_orders::{Order, Report};
 use hm_shape::Shape;
+use hm_words::Settings;
 use std::alloc::Global;
 use std::thread::{self, Threads};
-
-/// How many versions each of the four regions of a caller has.
-const VERSIONS: u32 = 4096;
 
 /// What a replay came to, and what is left of its heap, where one was made.
 #[derive(Drop)]
@@ -36,28 +33,31 @@ pub(crate) struct Replayed {
 pub(crate) fn replay<R: Threads + Sync, F: Admission + Sync, G: Gate + Sync>(
     rt: &R,
     alloc: Global,
+    settings: &Settings,
     files: Vec<Vec<Order>>,
     admit: F,
     gate: &G,
 ) -> Replayed
-    requires tells { F.tells no_limits admit }
+    requires versions { (4 ≤ settings.now.versions) × (settings.now.versions ≤ 65536) }
+    requires tells { F.tells settings.now.limits admit }
     requires files { AreOfFiles (map (λ orders. orders.items) files.items) }
-    ensures heap { IfSome result.closed (IsReplay (length files.items)) }
+    ensures heap { IfSome result.closed (IsReplay settings.now (length files.items)) }
     ensures unmade { result.closed ≡ None → result.ended ≡ Err Stopped.Memory }
     ensures report { IfSome result.closed (λ e. IfOk result.ended
-        (TellsAll (map (λ orders. orders.items) files.items) e.history)) }
+        (TellsAll settings.now.limits (map (λ orders. orders.items) files.items) e.history)) }
     ensures full { IfSome result.closed (λ e. IfErr result.ended
-        (IfFull (WasFullAt (map (λ orders. orders.items) files.items) e.history))) }
+        (IfFull (WasFullAt settings.now.versions (map (λ orders. orders.items) files.items)
+        e.history))) }
     ensures first { IfSome result.closed (λ e. IfErr result.ended
         (IfFull (IsFirstFull (map (λ orders. orders.items) files.items) e))) }
 {
-    let Ok((heap, passes)) = open(alloc, files.as_slice()) else {
+    let Ok((heap, passes)) = open(alloc, settings, files.as_slice()) else {
         return Replayed {
             closed: None,
             ended: Err(Stopped::Memory),
         };
     };
-    let desk = Desk::new(Limits::NONE, admit);
+    let desk = Desk::new(settings.limits, admit);
     let (passes, came) = work_all(rt, alloc, &heap, passes, files.as_slice(), &desk, gate);
     let closed = Some(close(heap, passes));
     match came {
@@ -75,14 +75,16 @@ pub(crate) fn replay<R: Threads + Sync, F: Admission + Sync, G: Gate + Sync>(
 /// A heap with an empty book, and its passes, one for each file.
 fn open(
     alloc: Global,
+    settings: &Settings,
     files: &[Vec<Order>],
 ) -> Result<(Heap<BookUsage>, Vec<Pass<BookUsage>>), Stopped>
+    requires versions { (4 ≤ settings.now.versions) × (settings.now.versions ≤ 65536) }
     requires files { AreOfFiles (map (λ orders. orders.items) files.now) }
-    ensures heap { IfOk result (λ r. IsBookHeap (length files.now) r.0.site) }
+    ensures heap { IfOk result (λ r. IsBookHeap settings.now (length files.now) r.0.site) }
     ensures all { IfOk result (λ r. AreAll r.0 r.1.items) }
     ensures rest { IfOk result (λ r. All IsAtRest r.1.items) }
     ensures ready { IfOk result (λ r.
-        AreReady r.1.items (map (λ orders. orders.items) files.now)) }
+        AreReady settings.now.limits r.1.items (map (λ orders. orders.items) files.now)) }
     ensures memory { IfErr result (λ stopped. stopped ≡ Stopped.Memory) }
 {
     let mut lengths = Vec::new(alloc);
@@ -90,14 +92,14 @@ fn open(
         lengths.push(orders.len() as u64)?;
     }
     let usage = BookUsage {
-        limits: Limits::NONE,
+        limits: settings.limits,
         lengths: Lengths::new(lengths),
     };
     let start = Start {
         numbers: [0; 10],
         sides: [None, None, None, Some([0; 10])],
     };
-    let shape = Shape::new(files.len() as u32, 4, VERSIONS).unwrap();
+    let shape = Shape::new(files.len() as u32, 4, settings.versions).unwrap();
     Ok(Heap::make(alloc, shape, usage, start)?)
 }
 
@@ -115,8 +117,7 @@ fn work_all<R: Threads + Sync, F: Admission + Sync, G: Gate + Sync>(
     requires all { AreAll heap.now passes.items }
     requires rest { All IsAtRest passes.items }
     requires some { 0 < length passes.items }
-    requires desk { desk.now ≡ no_limits }
-    requires ready { AreReady passes.items (map (λ orders. orders.items) files.now) }
+    requires ready { AreReady desk.now passes.items (map (λ orders. orders.items) files.now) }
     ensures all { AreAll heap.now result.0.items }
     ensures worked { IfSome result.1 (λ came. HaveWorked passes.items result.0.items
         (map (λ orders. orders.items) files.now) came.items) }
@@ -146,7 +147,7 @@ fn work_side_by_side<R: Threads + Sync, F: Admission + Sync, G: Gate + Sync>(
     gate: &G,
 )
     requires some { 0 < length jobs.old }
-    requires desk { desk.now ≡ no_limits }
+    requires under { All (IsUnder desk.now) jobs.old }
     ensures count { length jobs.new ≡ length jobs.old }
     ensures works { (k : ℕ) (d : Working) → k < length jobs.old
         → Works (slice_index_or jobs.old k d) (slice_index_or jobs.new k d) }
@@ -164,7 +165,8 @@ fn jobs_of<'h>(
 ) -> Vec<Job<'h>>
     requires all { AreAll heap.now passes.items }
     requires rest { All IsAtRest passes.items }
-    requires ready { AreReady passes.items (map (λ orders. orders.items) files.now) }
+    requires ready { (limits : Limits)
+        × AreReady limits passes.items (map (λ orders. orders.items) files.now) }
     requires none { jobs.items ≡ [] }
     requires room { length passes.items ≤ vec_capacity jobs }
     ensures count { length result.items ≡ length passes.items }

@@ -3,6 +3,7 @@ ghost use Rattle.std.specs.Prelude.{◌≡◌, ◌+◌, ◌<◌, ◌≤◌, ℕ,
 ghost use Rattle.hm_orders.specs.declared.order.Order.{Order};
 ghost use Rattle.hm_orders.specs.declared.report.Done.{Done};
 ghost use Rattle.hm_model.specs.declared.entry.Entry.{Entry};
+ghost use Rattle.hm_words.specs.declared.asked.Settings.{Settings};
 ghost use Rattle.hm_replay.specs.Concluding.{CameTo, HasFinished, HaveCome, TellsAll};
 
 use crate::conclusion::{Came, Stopped};
@@ -13,8 +14,9 @@ use std::alloc::Global;
 pub(crate) fn report_of(alloc: Global, came: Vec<Came>) -> Result<Report, Stopped>
     requires come { HaveCome came.items }
     requires finished { All HasFinished came.items }
-    ensures report { IfOk result (λ report. (files : List (List Order)) (history : List Entry)
-        → CameTo files history came.items → TellsAll files history report) }
+    ensures report { IfOk result (λ report. (settings : Settings) (files : List (List Order))
+        (history : List Entry) → CameTo settings files history came.items
+        → TellsAll settings.limits files history report) }
     ensures memory { IfErr result (λ stopped. stopped ≡ Stopped.Memory) }
 {
     let notes = Notes::of(alloc, came)?;

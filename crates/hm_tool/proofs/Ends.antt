@@ -7,8 +7,9 @@ use Rattle.hm_replay.specs.declared.conclusion.FullAt.{FullAt}
 use Rattle.hm_replay.specs.declared.refusal.Refused.{Refused}
 use Rattle.hm_replay.specs.declared.refusal.Refused.TheVariants.{Write}
 use Rattle.hm_replay.specs.Headline.{Headline, Replayed}
-use Rattle.hm_replay.specs.Outcomes.{SaysWhy}
-use Rattle.hm_replay.specs.Refusals.{IsTold, message_of, names_failed}
+use Rattle.hm_words.specs.Asked.{Wish}
+use Rattle.hm_replay.specs.Outcomes.{SaysWhy, names_lost}
+use Rattle.hm_replay.specs.Refusals.{IsTold, message_of}
 
 -- what a sink was told stands where it has the same bytes later
 told-later : (refused : Refused) (old mid new : Option (List ℕ)) (faults between after : ℕ)
@@ -19,24 +20,24 @@ told-later refused old mid new faults between after told same more = record {
   whole = elim told.whole [ inl all ↦ inl (same ∙ all) | inr rose ↦ inr (omega (arith, rose, more)) ];
 }
 
--- a report that was taken whole was one of the named files
-replayed : (told : List ℕ → Option (List ℕ)) (names : Option (List (List ℕ))) (closed : Option (Ended BookUsage))
-    (old new : Option (List ℕ)) → IfSome names (λ ns. Headline told ns closed old new)
-    → IfSome names (λ ns. Replayed told ns closed)
+-- what was taken whole was what was asked for
+replayed : (told : List ℕ → Option (List ℕ)) (asked : Option Wish) (closed : Option (Ended BookUsage))
+    (old new : Option (List ℕ)) → IfSome asked (λ wish. Headline told wish closed old new)
+    → IfSome asked (λ wish. Replayed told wish closed)
 replayed told None closed old new headline = tt
-replayed told (Some names) closed old new headline = headline.replayed
+replayed told (Some wish) closed old new headline = headline.replayed
 
 -- where no file was unread no name failed
-none_failed : (files names : Option (List (List ℕ))) → names ≡ names_failed None files names
+none_failed : (asked : Option Wish) (names : Option (List (List ℕ))) → names ≡ names_lost None asked names
 none_failed None names = refl
-none_failed (Some all) names = refl
+none_failed (Some wish) names = refl
 
-module _ (told : List ℕ → Option (List ℕ)) (names : Option (List (List ℕ))) (closed : Option (Ended BookUsage))
+module _ (told : List ℕ → Option (List ℕ)) (asked : Option Wish) (closed : Option (Ended BookUsage))
     (full : Option FullAt) (failed failed_after : Option (List (List ℕ))) where
   -- and so does why the program ends
   says-later : (last status : ℕ) (old mid new : Option (List ℕ)) (faults between after : ℕ)
-      → SaysWhy told names closed full status failed failed_after old mid faults between → last ≡ status → new ≡ mid
-      → between ≤ after → SaysWhy told names closed full last failed failed_after old new faults after
+      → SaysWhy told asked closed full status failed failed_after old mid faults between → last ≡ status → new ≡ mid
+      → between ≤ after → SaysWhy told asked closed full last failed failed_after old new faults after
   says-later last status old mid new faults between after why is same more = record {
     refused = why.refused;
     has_status = is ∙ why.has_status;
@@ -49,13 +50,13 @@ module _ (told : List ℕ → Option (List ℕ)) (names : Option (List (List ℕ
       (faults between later after : ℕ) (same : new ≡ late) (more : later ≤ after) where
     -- the program ends as the replay did, and told why; or the report could not be written out, and that is told
     pub why-ended : (status : ℕ) → (status ≢ 0 → last ≡ status) → (status ≡ 0 → last ≢ 0 → last ≡ 5)
-        → (status ≡ 0 → IfSome names (λ ns. Headline told ns closed taken_before taken))
+        → (status ≡ 0 → IfSome asked (λ wish. Headline told wish closed taken_before taken))
         → (status ≢ 4 → failed_after ≡ failed)
         → (status ≡ 0 → (mid ≡ old) × (between ≡ faults))
-        → (status ≢ 0 → SaysWhy told names closed full status failed failed_after old mid faults between)
+        → (status ≢ 0 → SaysWhy told asked closed full status failed failed_after old mid faults between)
         → (last ≡ status → (late ≡ mid) × (later ≡ between))
         → (status ≡ 0 → last ≢ 0 → IsTold Write mid late between later)
-        → last ≢ 0 → SaysWhy told names closed full last failed failed_after old new faults after
+        → last ≢ 0 → SaysWhy told asked closed full last failed failed_after old new faults after
     why-ended zero is write headline unread untold why quiet line_told ended =
         let first : mid ≡ old = (untold refl).0 in
         let none : between ≡ faults = (untold refl).1 in
@@ -63,8 +64,8 @@ module _ (told : List ℕ → Option (List ℕ)) (names : Option (List (List ℕ
         record {
           refused = Write;
           has_status = write refl ended;
-          cause = replayed told names closed taken_before taken (headline refl);
-          failures = unread (λ (e : zero ≡ 4). omega (arith, e)) ∙ none_failed names failed;
+          cause = replayed told asked closed taken_before taken (headline refl);
+          failures = unread (λ (e : zero ≡ 4). omega (arith, e)) ∙ none_failed asked failed;
           line = told-later Write old late new faults later after line same more;
         }
     why-ended (suc n) is write headline unread untold why quiet line_told ended =

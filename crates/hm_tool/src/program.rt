@@ -1,12 +1,13 @@
 //! What the program does, over any shelf and any two sinks.
-ghost use Rattle.std.specs.Prelude.{◌≡◌, ◌≢◌, ◌==◌, ◌<◌, ◌≤◌, ◌↔◌, if◌then◌else◌, ℕ, List, [], ◌∷◌, Contains, IfSome, None, length};
+ghost use Rattle.std.specs.Prelude.{◌≡◌, ◌≢◌, ◌==◌, ◌<◌, ◌≤◌, ◌⊎◌, if◌then◌else◌, ℕ, List, [], ◌∷◌, Contains, IfSome, None, length};
 ghost use Rattle.std.specs.Io.KnownBytes.{Appends};
 ghost use Rattle.hm_edge.specs.Faults.{Rose, next_count};
 ghost use Rattle.hm_replay.specs.Loading.{most_files};
-ghost use Rattle.hm_replay.specs.Headline.{Headline, IsReplay, PutsReport};
+ghost use Rattle.hm_replay.specs.Headline.{Headline, IsReplayOf, PutsText};
+ghost use Rattle.hm_replay.specs.Wishes.{names_of};
 ghost use Rattle.hm_replay.specs.Outcomes.{HasFront, SaysWhy};
 ghost use Rattle.hm_replay.specs.Refusals.{IsTold};
-ghost use Rattle.hm_tool.specs.Program.{AreRefused, files_of};
+ghost use Rattle.hm_tool.specs.Program.{AreRefused, asked_of};
 
 use hm_desk::NoGate;
 use hm_edge::{Finish, Memory, Shelf, Sink};
@@ -27,25 +28,26 @@ pub(crate) fn program<R: Threads + Sync, S: Shelf, K: Finish, E: Finish>(
     ensures statuses { Contains (0 ∷ 1 ∷ 2 ∷ 3 ∷ 4 ∷ 5 ∷ 6 ∷ 7 ∷ []) result.status }
 
     // What was done: one lawful history on the heap, and the report of the interleaving that it spells.
-    ensures headline { result.status ≡ 0 → IfSome (files_of words) (λ names.
-        Headline (S.told shelf.old) names result.closed (K.written out.old) (K.written out.new)) }
-    ensures heap { IfSome (files_of words) (λ names.
-        IfSome result.closed (IsReplay (length names))) }
-    ensures lines { result.status ≡ 0 → IfSome (files_of words) (λ names.
-        IfSome result.closed (λ e. PutsReport (length names) e (K.puts out.old) (K.puts out.new))) }
-    ensures front { IfSome (files_of words) (λ names.
-        HasFront (length names) result.closed (K.written out.old) (K.written out.new)) }
+    ensures headline { result.status ≡ 0 → IfSome (asked_of words) (λ wish.
+        Headline (S.told shelf.old) wish result.closed (K.written out.old) (K.written out.new)) }
+    ensures heap { IfSome (asked_of words) (λ wish.
+        IfSome result.closed (IsReplayOf wish)) }
+    ensures lines { result.status ≡ 0 → IfSome (asked_of words) (λ wish.
+        IfSome result.closed (λ e. PutsText wish e (K.puts out.old) (K.puts out.new))) }
+    ensures front { IfSome (asked_of words) (λ wish.
+        HasFront wish result.closed (K.written out.old) (K.written out.new)) }
     ensures untouched { result.status ≢ 0 → result.status ≢ 1 → result.status ≢ 5
         → K.written out.new ≡ K.written out.old }
     ensures written_out { K.held out.new ≡ [] }
 
     // When each status comes, and what the sink for errors is told.
-    ensures why { result.status ≢ 0 → SaysWhy (S.told shelf.old) (files_of words)
+    ensures why { result.status ≢ 0 → SaysWhy (S.told shelf.old) (asked_of words)
         result.closed result.full result.status (S.failed shelf.old) (S.failed shelf.new)
         (E.written err.old) (E.written err.new) (E.faults err.old) (E.faults err.new) }
-    ensures words { (result.status ≡ 2) ↔ AreRefused words }
-    ensures files { IfSome (files_of words) (λ names.
-        most_files < length names → result.status ≡ 7) }
+    ensures words { result.status ≡ 2 → AreRefused words }
+    ensures refused { AreRefused words → (result.status ≡ 2) ⊎ (result.status ≡ 1) }
+    ensures files { IfSome (asked_of words) (λ wish.
+        most_files < length (names_of wish) → (result.status ≡ 7) ⊎ (result.status ≡ 1)) }
     ensures read { result.status ≡ 4 → Rose (S.faults shelf.old) (S.faults shelf.new) }
     ensures unread { result.status ≢ 4 → S.faults shelf.new ≡ S.faults shelf.old }
     ensures failures { result.status ≢ 4 → S.failed shelf.new ≡ S.failed shelf.old }
@@ -80,22 +82,23 @@ fn replay_words<R: Threads + Sync, S: Shelf, K: Sink, E: Sink>(
     err: &mut E,
 ) -> Outcome
     ensures statuses { Contains (0 ∷ 1 ∷ 2 ∷ 3 ∷ 4 ∷ 5 ∷ 6 ∷ 7 ∷ []) result.status }
-    ensures headline { result.status ≡ 0 → IfSome (files_of words) (λ names.
-        Headline (S.told shelf.old) names result.closed (K.written out.old) (K.written out.new)) }
-    ensures heap { IfSome (files_of words) (λ names.
-        IfSome result.closed (IsReplay (length names))) }
-    ensures lines { result.status ≡ 0 → IfSome (files_of words) (λ names.
-        IfSome result.closed (λ e. PutsReport (length names) e (K.puts out.old) (K.puts out.new))) }
-    ensures front { IfSome (files_of words) (λ names.
-        HasFront (length names) result.closed (K.written out.old) (K.written out.new)) }
+    ensures headline { result.status ≡ 0 → IfSome (asked_of words) (λ wish.
+        Headline (S.told shelf.old) wish result.closed (K.written out.old) (K.written out.new)) }
+    ensures heap { IfSome (asked_of words) (λ wish.
+        IfSome result.closed (IsReplayOf wish)) }
+    ensures lines { result.status ≡ 0 → IfSome (asked_of words) (λ wish.
+        IfSome result.closed (λ e. PutsText wish e (K.puts out.old) (K.puts out.new))) }
+    ensures front { IfSome (asked_of words) (λ wish.
+        HasFront wish result.closed (K.written out.old) (K.written out.new)) }
     ensures untouched { result.status ≢ 0 → result.status ≢ 1 → result.status ≢ 5
         → K.written out.new ≡ K.written out.old }
-    ensures why { result.status ≢ 0 → SaysWhy (S.told shelf.old) (files_of words)
+    ensures why { result.status ≢ 0 → SaysWhy (S.told shelf.old) (asked_of words)
         result.closed result.full result.status (S.failed shelf.old) (S.failed shelf.new)
         (E.written err.old) (E.written err.new) (E.faults err.old) (E.faults err.new) }
-    ensures words { (result.status ≡ 2) ↔ AreRefused words }
-    ensures files { IfSome (files_of words) (λ names.
-        most_files < length names → result.status ≡ 7) }
+    ensures words { result.status ≡ 2 → AreRefused words }
+    ensures refused { AreRefused words → (result.status ≡ 2) ⊎ (result.status ≡ 1) }
+    ensures files { IfSome (asked_of words) (λ wish.
+        most_files < length (names_of wish) → (result.status ≡ 7) ⊎ (result.status ≡ 1)) }
     ensures read { result.status ≡ 4 → Rose (S.faults shelf.old) (S.faults shelf.new) }
     ensures unread { result.status ≢ 4 → S.faults shelf.new ≡ S.faults shelf.old }
     ensures failures { result.status ≢ 4 → S.failed shelf.new ≡ S.failed shelf.old }

@@ -150,12 +150,20 @@ fn a_file_gives_its_report_or_the_first_refused_row(rt: HostRuntime) -> Result<(
 }
 
 /// The words, the status and the line of the refusal, where `a` is the only file.
-const WORDS: [(&[&str], u8, &str); 9] = [
+const WORDS: [(&[&str], u8, &str); 13] = [
     (&[], 2, "hm: words\n"),
     (&["replay"], 2, "hm: words\n"),
     (&["frob", "a"], 2, "hm: words\n"),
     (&["replay", "-a"], 2, "hm: words\n"),
-    (&["replay", "a", ""], 2, "hm: words\n"),
+    (&["replay", "--versions", "63", "a"], 2, "hm: words\n"),
+    (
+        &["replay", "--low", "5", "--high", "4", "a"],
+        2,
+        "hm: words\n",
+    ),
+    (&["replay", "--max-quantity", "0", "a"], 2, "hm: words\n"),
+    (&["generate", "7"], 2, "hm: words\n"),
+    (&["replay", "a", ""], 4, "hm: read 2\n"),
     (&["replay", "a", "-b"], 2, "hm: words\n"),
     (&["replay", "b"], 4, "hm: read 1\n"),
     (&["replay", "a", "b"], 4, "hm: read 2\n"),
@@ -173,6 +181,51 @@ fn other_words_and_missing_files_are_refused(rt: HostRuntime) -> Result<(), Fail
         assert_eq!(rt; ran.outcome.status, status, "at {line}");
         assert!(rt; ran.out.bytes().is_empty(), "at {line}");
         assert_eq!(rt; ran.err.bytes(), line.as_bytes());
+    }
+    Ok(())
+}
+
+/// The words and what is written, where `a` is the only file.
+const OPTIONS: [(&[&str], &str); 5] = [
+    (
+        &[
+            "replay",
+            "--max-quantity",
+            "100",
+            "--low",
+            "5",
+            "--high",
+            "20",
+            "a",
+        ],
+        "order 1 1 1 rested\norder 2 1 2 denied\norder 3 1 3 dropped\nfill 1 3 1 10 5\norder 4 1 4 dropped\norder 5 1 5 denied\norder 6 1 6 rested\norder 7 1 7 cancelled\nboard 7\nend 7 1 0\n",
+    ),
+    (
+        &["generate", "7", "0"],
+        "generated 7 0\nboard 0\nend 0 0 0\n",
+    ),
+    (
+        &["generate", "7", "1"],
+        "generated 7 1\nboard 1\nend 1 0 1\n",
+    ),
+    (
+        &["generate", "7", "2"],
+        "generated 7 2\nboard 2\nend 2 0 1\n",
+    ),
+    (
+        &["generate", "7", "200", "--versions", "16384"],
+        "generated 7 200\nboard 200\nend 200 65 17\n",
+    ),
+];
+
+#[test]
+fn options_and_made_orders_have_their_effect(rt: HostRuntime) -> Result<(), Fail> {
+    let text = "L,1,B,10,5\nL,2,B,9,101\nI,3,S,9,8\nM,4,B,,2\nL,5,S,21,1\nL,6,S,12,4\nC,6,,,\n";
+    for (words, written) in OPTIONS {
+        let ran = run_words(&rt, rt.alloc(), words, &[text])?;
+        assert_eq!(rt; ran.outcome.status, 0);
+        assert_eq!(rt; ran.out.bytes(), written.as_bytes());
+        assert!(rt; ran.err.bytes().is_empty());
     }
     Ok(())
 }

@@ -22,6 +22,6 @@ loop-c-preserved c =
     record { counted = omega (arith, more, same, i.counted); few = omega (arith, few, i.few) }
 
 pub returns : goal.returns
-returns c files history to =
+returns c settings files history to =
     let none = at_drop_all (sum_by (λ (c : Came). c.progress.next)) _ c.loop-c.c-index c.loop-c-test.false in
-    let all = all_applied files history _ to in omega (arith, c.loop-c.invariant.counted, none, all)
+    let all = all_applied settings files history _ to in omega (arith, c.loop-c.invariant.counted, none, all)

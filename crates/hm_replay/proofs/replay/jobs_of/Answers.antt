@@ -11,8 +11,8 @@ new-requires-clause-ready c =
     let all = c.loop-pass.invariant.all ∙ ap (λ l. c.loop-pass.yielded ++ l) c.in-Some.ensures.steps.0 in
     let within : c.len.result < length c.args.files.now =
     subst (λ n. n < length c.args.files.now) place
-    (next_within _ c.loop-pass.yielded c.in-Some.pass c.next.new.self.rest.items c.args.files.now all c.requires.ready.count) in
-    next_ready _ _ c.requires.ready c.loop-pass.yielded c.in-Some.pass c.next.new.self.rest.items
+    (next_within _ c.loop-pass.yielded c.in-Some.pass c.next.new.self.rest.items c.args.files.now all c.requires.ready.1.count) in
+    next_ready _ _ _ c.requires.ready.1 c.loop-pass.yielded c.in-Some.pass c.next.new.self.rest.items
     all _
     (own_orders c.args.files.now _ c.len.result c.index-files-len.result _ place within c.index-files-len.is
     c.as_slice-orders.ensures.value)
@@ -24,7 +24,7 @@ loop-pass-preserved c =
     let all = i.all ∙ ap (λ l. c.loop-pass.yielded ++ l) c.in-Some.ensures.steps.0 in
     let within : c.len.result < length c.args.files.now =
     subst (λ n. n < length c.args.files.now) place
-    (next_within _ c.loop-pass.yielded c.in-Some.pass c.next.new.self.rest.items c.args.files.now all c.requires.ready.count) in
+    (next_within _ c.loop-pass.yielded c.in-Some.pass c.next.new.self.rest.items c.args.files.now all c.requires.ready.1.count) in
     record {
       count = count_more _ _ c.new.result c.loop-pass.yielded c.in-Some.pass c.push_reserved.ensures.items i.count;
       all = all ∙ sym (append_assoc c.loop-pass.yielded (c.in-Some.pass ∷ []) c.next.new.self.rest.items);

@@ -18,7 +18,6 @@ returns-clause-ready c =
     let made = c.in_ok-make.ensures in
     let site = made.site in
     let callers : c.unwrap-shape.result.callers ≡ length c.args.files.now = search rules in
-    let versions : c.unwrap-shape.result.versions ≡ 4096 = search rules in
     let lengths : c.new.result ≡ map (length {A = Order}) (map (λ orders. orders.items) c.args.files.now) =
     c.new.ensures ∙ (c.loop-orders.invariant
     ∙ ap (λ (l : List (Vec Order Global)). map (length {A = Order}) (map (λ orders. orders.items) l))
@@ -26,7 +25,6 @@ returns-clause-ready c =
     ready c.in_ok-make.field-0.0 _ _ c.requires.files made.all
     (ap (λ (g : Site BookUsage). g.shape.callers) site ∙ (callers ∙ sym (length-map c.args.files.now (λ orders. orders.items))))
     (subst IsBookStart (sym (ap (λ (g : Site BookUsage). g.start) site)) record { numbers = refl; sides = refl })
-    (ap (λ (g : Site BookUsage). g.usage.limits) site ∙ refl)
+    c.args.settings.now.limits (ap (λ (g : Site BookUsage). g.usage.limits) site ∙ refl)
     (ap (λ (g : Site BookUsage). g.usage.lengths) site ∙ lengths)
     made.fresh made.histories
-    (subst (λ (n : ℕ). All (λ s. (sight_of s).span ≡ n) c.in_ok-make.field-0.1.items) versions made.span)

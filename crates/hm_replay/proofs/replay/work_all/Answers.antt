@@ -7,7 +7,8 @@ use Rattle.hm_cells.specs.Facts.{Facts}
 use Rattle.hm_heap.proofs.Staying.{all_still}
 use Rattle.hm_replay.specs.declared.conclusion.Came.{Came}
 use Rattle.hm_replay.specs.Working.{HaveWorked, IsAtWork, Working, Works}
-use Rattle.hm_replay.proofs.Jobs.{changed, have_worked, same_callers, some_item}
+use Rattle.hm_replay.specs.Working.{IsUnder}
+use Rattle.hm_replay.proofs.Jobs.{changed, have_worked, jobs_under, same_callers, some_item}
 use Rattle.hm_replay.proofs.replay.work_all.Goals as goal
 
 pub returns-clause-all : goal.returns-clause-all
@@ -27,7 +28,7 @@ returns-clause-all g c =
     subst (AreAll c.args.heap.now)
     (sym (ended.passes ∙ ap (λ (l : List Working). map (λ (job : Working). job.pass) l) (changed c.jobs_of-jobs.result.len new old wide long)))
     (all_still c.args.heap.now c.args.passes.items _ c.requires.all
-    (same_callers c.args.passes.items _ c.requires.ready old new made.jobs made.count wide works (some_item old some)))
+    (same_callers _ c.args.passes.items _ c.requires.ready old new made.jobs made.count wide works (some_item old some)))
 
 pub returns-clause-worked : goal.returns-clause-worked
 returns-clause-worked g c =
@@ -49,5 +50,12 @@ returns-clause-worked g c =
     let came = ended.came ∙ ap (λ (l : List Working). map (λ (job : Working). job.came) l) same in
     subst (λ (l : List Came). HaveWorked c.args.passes.items c.ends_of-back.result.0.items files l) (sym came)
     (subst (λ (l : List (Facts BookUsage)). HaveWorked c.args.passes.items l files (map (λ (job : Working). job.came) new)) (sym back)
-    (have_worked c.args.passes.items files c.requires.ready old new made.jobs made.count wide works (some_item old some)
+    (have_worked _ c.args.passes.items files c.requires.ready old new made.jobs made.count wide works (some_item old some)
     (subst (λ (l : List Working). All IsAtWork l) same ended.at_work)))
+
+pub work_side_by_side-requires-clause-under : goal.work_side_by_side-requires-clause-under
+work_side_by_side-requires-clause-under g c = λ κs live.
+    let old : List Working = c.jobs_of-jobs.result.items in
+    let slice : c.as_mut_slice.result.now ≡ old = search rules in
+    subst (All (IsUnder c.args.desk.now)) (sym slice)
+    (jobs_under _ c.args.passes.items _ c.requires.ready old c.jobs_of-jobs.ensures.jobs)

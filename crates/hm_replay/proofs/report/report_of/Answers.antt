@@ -11,9 +11,9 @@ last_resting-resting-requires c =
     record { files = search rules }
 
 pub returns-clause-report : goal.returns-clause-report
-returns-clause-report c files history to =
+returns-clause-report c settings files history to =
     let notes = c.in_ok-notes.ensures in
-    whole files history _ to c.requires.finished _ _ c.as_slice.result.now notes.done
+    whole settings files history _ to c.requires.finished _ _ c.as_slice.result.now notes.done
     (c.as_slice.ensures.value ∙ notes.resting) c.in_ok-done.ensures.merged
     (λ none. c.last_resting-resting.ensures.none (ap length c.items.ensures ∙ none))
     (λ n k rest last long is here shown. c.last_resting-resting.ensures.last n k rest last

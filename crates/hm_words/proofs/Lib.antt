@@ -1,0 +1,12 @@
+pub mod Answered
+pub mod Ending
+pub mod Generating
+pub mod Leads
+pub mod Numbers
+pub mod Passed
+pub mod Passing
+pub mod PlainNumbers
+pub mod Required
+pub mod Rows
+pub mod Steps
+pub mod Uses

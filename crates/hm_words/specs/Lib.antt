@@ -1,0 +1,4 @@
+pub mod Commands
+pub mod Asked
+pub mod Reading
+pub mod Plain
