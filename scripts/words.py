@@ -2,7 +2,7 @@
 import re
 from collections import namedtuple
 
-from calls import Bad
+from calls import Bad, shown
 from options import DISORDER, OPTIONS, RANGE, number_in
 from rows import MOST_FILES, MOST_ROWS
 
@@ -23,9 +23,9 @@ def call_of(words):
     """What the words ask for, or Fault."""
     for word in words:
         if word != word.encode("utf-8", "replace").decode():
-            raise Fault("%s: a word that is not UTF-8, and beside such a one no word is read" % shown(word))
+            raise Fault("%s: a word that is not UTF-8, and beside such a one no word is read" % spelled(word))
     if not words or words[0] not in COMMANDS:
-        raise Fault("%s: the first word is replay or generate" % (shown(words[0]) if words else "no word"))
+        raise Fault("%s: the first word is replay or generate" % (spelled(words[0]) if words else "no word"))
     options, rest = divided(words[0], words[1:])
     if options["--low"] > options["--high"]:
         raise Fault(DISORDER % (options["--low"], options["--high"]))
@@ -67,10 +67,10 @@ def number_of(name, equals, value):
         raise Fault("%s: %s has to stand behind it, and it is the last word" % (name, allowed))
     if is_option(value) and not equals:
         raise Fault("%s: %s has to stand behind it, and there stands %s, which begins with -" % (
-            name, allowed, shown(value)))
+            name, allowed, spelled(value)))
     number = number_in(value, least, most)
     if number is None:
-        raise Fault("%s%s%s: %s" % (name, equals or " ", shown(value), allowed))
+        raise Fault("%s%s%s: %s" % (name, equals or " ", spelled(value), allowed))
     return number
 
 
@@ -78,8 +78,8 @@ def unknown(command, word):
     """What is said of an option that a command does not have."""
     names = COMMANDS[command]
     there = "there is %s" % names[0] if len(names) == 1 else "there are %s and %s" % (", ".join(names[:-1]), names[-1])
-    named = "; a file of that name is named ./%s" % shown(word) if command == "replay" else ""
-    return "%s: no such option, %s%s" % (shown(word), there, named)
+    named = "; a file of that name is named ./%s" % spelled(word) if command == "replay" else ""
+    return "%s: no such option, %s%s" % (spelled(word), there, named)
 
 
 def numbers_of(words):
@@ -88,18 +88,18 @@ def numbers_of(words):
     for (name, most), word in zip(NUMBERS.items(), words):
         numbers.append(number_in(word, 0, most))
         if numbers[-1] is None:
-            raise Fault("%s %s: %s" % (name, shown(word), RANGE % (0, most)))
+            raise Fault("%s %s: %s" % (name, spelled(word), RANGE % (0, most)))
     for name in list(NUMBERS)[len(words):]:
         raise Fault("%s: %s has to stand there, and the word is missing" % (name, RANGE % (0, NUMBERS[name])))
     if len(words) > len(NUMBERS):
         raise Fault("%s: a word too many behind COUNT, only %s may stand there" % (
-            shown(words[len(NUMBERS)]), COMMANDS["generate"][0]))
+            spelled(words[len(NUMBERS)]), COMMANDS["generate"][0]))
     return numbers
 
 
-def shown(word):
+def spelled(word):
     """A word as a sentence can have it."""
-    return word if re.fullmatch("[A-Za-z0-9_./+,@=-]+", word) else ascii(word)
+    return word if re.fullmatch("[A-Za-z0-9_./+,@=-]{1,60}", word) else shown(word)
 
 
 def refused_words(words):
