@@ -11,11 +11,13 @@ class Book:
         self.names, self.roots = {}, {}  # root number -> (file, id) of a resting order, and back
         self.root = self.fills = 0
 
-    def apply(self, file, row, order):
-        """The lines of the report for one order: its own, and then those of its fills."""
+    def apply(self, file, row, order, is_admitted=True):
+        """The lines of the report for one order, which limits admit or not: its own, and then those of its fills."""
         self.root += 1
         name, fills = (file, order.id), []
-        if order.kind == "C":
+        if not is_admitted:
+            fate = "denied"
+        elif order.kind == "C":
             fate = self.cancel(name)
         elif name in self.roots:
             fate = "repeated"

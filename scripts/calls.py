@@ -24,7 +24,8 @@ class Parser(argparse.ArgumentParser):
     """A parser of words that says in one line what is wrong with them."""
 
     def __init__(self, description):
-        super().__init__(description=description, formatter_class=argparse.RawDescriptionHelpFormatter)
+        super().__init__(description=description, formatter_class=argparse.RawDescriptionHelpFormatter,
+                         allow_abbrev=False)
 
     def error(self, message):
         raise Bad("%s; %s --help says more" % (message, self.prog))

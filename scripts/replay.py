@@ -11,17 +11,21 @@ class Unsound(Exception):
 
 
 class Walk:
-    """A report beside the replay of its own interleaving, line by line."""
+    """A report beside the replay of its own interleaving, line by line.
 
-    def __init__(self, data, files):
+    Whether an order is admitted is told of it and the fate on its line.
+    """
+
+    def __init__(self, data, files, admits=lambda order, fate: True):
         self.lines, self.at, self.there = io.BytesIO(data), 0, b""
-        self.files, self.done, self.book = files, [0] * len(files), Book()
+        self.files, self.done, self.book, self.admits = files, [0] * len(files), Book(), admits
 
     def check(self, each=lambda book: None):
         """Reads the report to its end, or tells of its first wrong line. After each order the book is shown."""
         for _ in range(sum(map(len, self.files))):
-            file, row = self.next_row()
-            own, *fills = self.book.apply(file, row, self.files[file - 1][row - 1])
+            file, row, fate = self.next_row()
+            order = self.files[file - 1][row - 1]
+            own, *fills = self.book.apply(file, row, order, self.admits(order, fate))
             self.require(own)
             for fill in fills:
                 self.step()
@@ -40,13 +44,13 @@ class Walk:
         self.there, self.at = self.lines.readline(), self.at + 1
 
     def next_row(self):
-        """The file and the row that the next line names; it has to be a file's next row."""
+        """The file and the row that the next line names, which has to be a file's next row, and the fate on it."""
         self.step()
         found = ORDER_LINE.fullmatch(self.there)
         file = int(found[2]) if found else 0
         if 1 <= file <= len(self.files) and int(found[3]) == self.done[file - 1] + 1 <= len(self.files[file - 1]):
             self.done[file - 1] += 1
-            return file, self.done[file - 1]
+            return file, self.done[file - 1], found[4].decode()
         nexts = ["row %d of file %d" % (done + 1, at) for at, done in enumerate(self.done, 1)
                  if done < len(self.files[at - 1])]
         self.wrong("an order line of %s, for order %d" % (" or ".join(nexts), self.book.root + 1))

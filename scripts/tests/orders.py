@@ -1,6 +1,9 @@
 """Rows of order files, as orders and as bytes, and the reports of rows that are applied in some order."""
 from book import Book
-from rows import Row
+from options import Limits, admits
+from rows import MOST_NUMBER, Row
+
+NO_LIMITS = Limits(MOST_NUMBER, 1, MOST_NUMBER)
 
 
 def rows_at_random(chance, count, ids, prices=8):
@@ -38,10 +41,10 @@ def written(rows):
     return "".join(",".join("" if value is None else str(value) for value in row) + "\n" for row in rows).encode()
 
 
-def in_turn(files):
+def in_turn(files, limits=NO_LIMITS):
     """The report of files of rows that are applied in turn, a row of each."""
     return report_of(files, [(file, row) for row in range(max(map(len, files))) for file in range(len(files))
-                             if row < len(files[file])])
+                             if row < len(files[file])], limits)
 
 
 def one_by_one(files):
@@ -49,11 +52,11 @@ def one_by_one(files):
     return report_of(files, [(file, row) for file in range(len(files)) for row in range(len(files[file]))])
 
 
-def report_of(files, places):
-    """The report of files of rows that are applied in this order."""
+def report_of(files, places, limits=NO_LIMITS):
+    """The report of files of rows that are applied in this order, with these limits."""
     book, lines = Book(), []
     for file, row in places:
-        lines += book.apply(file + 1, row + 1, files[file][row])
+        lines += book.apply(file + 1, row + 1, files[file][row], admits(limits, files[file][row]))
     lines += ["board" + "".join(" %d" % len(rows) for rows in files),
               "end %d %d %d" % (book.root, book.fills, len(book.left))]
     return "".join(line + "\n" for line in lines).encode()

@@ -4,24 +4,11 @@ import re
 from common import Case, content
 from worked import worked
 
-ALLOWED = "Allowed is replay and the names of one to 8 files, each of which is UTF-8, not empty, and does not begin "
 NINE = list("abcdefghi")
 LEAST_MEMORY = int(re.search(r"LEAST_MEMORY = (\d+)", content("scripts", "explain").decode())[1])
 LINES = [
     ("hm: memory", ["replay", "f"], "Memory ran out (status 1)"),
     ("hm: memory", ["./hm", "replay", "f"], "at least %d MB of address space" % LEAST_MEMORY),
-    ("hm: words", [], "the first word has to be replay, and there is none. Allowed is replay and the names"),
-    ("hm: words", ["frob", "f"], "is 'frob'", ALLOWED),
-    ("hm: words", ["--help"], "is '--help'", ALLOWED),
-    ("hm: words", ["./hm", "--help"], "is '--help'", ALLOWED),
-    ("hm: words", ["./hm", "hm", "replay", "f"], "is 'hm'", ALLOWED),
-    ("hm: words", ["replay"], "behind replay stand the names of files, and there stands none", ALLOWED),
-    ("hm: words", ["../x/hm", "replay", "a", "b", ""], "the word for file 3 is empty", ALLOWED),
-    ("hm: words", ["replay", ""], "the word for file 1 is empty", ALLOWED),
-    ("hm: words", ["replay", "-x"], "'-x', begins with -, and ./-x would name the same file", ALLOWED),
-    ("hm: words", ["replay", "a", "-x", ""], "the word for file 2, '-x', begins with -", ALLOWED),
-    ("hm: words", ["replay", *NINE, "-"], "the word for file 10, '-', begins with -", ALLOWED),
-    ("hm: words", ["replay", b"\xff"], "the word for file 1, '\\udcff', is not UTF-8", ALLOWED),
     ("hm: text 1 2 price", ["./hm", "replay", "FILE"], "Row 2 of FILE (its line 3)"),
     ("hm: text 1 2 price", ["crates/hm_tool/out/hm_tool", "replay", "FILE"], "Row 2 of FILE (its line 3)"),
     ("hm: text 1 2 kind", ["replay", "MARKS"], "'\\xef\\xbb\\xbfL'", "begins with a UTF-8 byte order mark (ef bb bf)"),
@@ -45,11 +32,19 @@ LINES = [
     ("hm: read 1", ["replay", "missing"], "File 1, missing, could not be read (status 4): No such file"),
     ("hm: read 2", ["./hm", "replay", "FILE", "missing"], "File 2, missing, could not be read (status 4): No such"),
     ("hm: write", ["replay", "f"], "(status 5)"),
-    ("hm: full 1", ["replay", "f"], "4096 versions of the heap", "file 1, f (status 6)"),
+    ("hm: text 1 2 price", ["replay", "--low", "5", "FILE", "--high=9"], "Row 2 of FILE (its line 3)"),
+    ("hm: text 2 2 price", ["replay", "other", "--versions=64", "--", "FILE"], "Row 2 of FILE (its line 3)"),
+    ("hm: read 1", ["replay", ""], "File 1, '', could not be read (status 4): No such file"),
+    ("hm: read 2", ["replay", "a", "--", "--low"], "File 2, --low, could not be read (status 4): No such file"),
+    ("hm: full 1", ["replay", "f"], "4096 versions of the heap", "file 1, f (status 6)", "--versions gives more, up to "),
+    ("hm: full 1", ["replay", "f", "--versions", "65536"], "has 65536 versions", "--versions gives no more than that"),
+    ("hm: full 1", ["generate", "7", "9999", "--versions=64"], "The orders that are made from 7 have 64 versions of the",
+     "none was left for one of them (status 6)", "--versions gives more, up to 65536, and fewer orders may fit."),
     ("hm: full 2", ["replay", "f", "g"], "file 2, g (status 6)"),
     ("hm: long 1", ["replay", "FILE"], "at most 67108864 bytes, and it has 25 bytes now"),
     ("hm: long 3", ["replay", "a", "b", "FILE"], "File 3, FILE, is too long (status 7)", "it has 25 bytes now"),
     ("hm: files 9", ["./hm", "replay", *NINE], "The words name 9 files (status 7), and at most 8 are replayed"),
+    ("hm: files 9", ["replay", *NINE[:8], "--low", "5", "-"], "The words name 9 files (status 7), and at most 8 are "),
 ]
 NO_LINES = [
     (),
@@ -67,8 +62,16 @@ NO_LINES = [
     ("hm: full 9", "replay", *NINE[:8]),
     ("hm: files 8", "replay", *NINE[:8]),
     ("hm: files 10", "replay", *NINE),
-    ("hm: files 9", "replay", *NINE[:8], "-"),
+    ("hm: files 9", "replay", *NINE[:8], "-i"),
+    ("hm: files 9", "replay", *NINE, "--low", "0"),
     ("hm: files 9", "frob", *NINE),
+    ("hm: files 9", "generate", "7", "9"),
+    ("hm: read 1", "generate", "7", "9"),
+    ("hm: read 1", "replay", "--versions", "63", "missing"),
+    ("hm: text 1 2 price", "replay", "--low", "FILE"),
+    ("hm: full 2", "generate", "7", "9"),
+    ("hm: words", "generate", "7", "9"),
+    ("hm: words", "replay", "--low", "5", "", "-", "--", "--high"),
     ("hm: words", "replay", *NINE),
     ("hm: words", "replay", "FILE"),
     ("hm: words", "./hm", "replay", "FILE"),

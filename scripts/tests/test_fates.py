@@ -53,7 +53,7 @@ class Fates(Picture):
             self.assertGreater(abs(apart[0]), 8, (one, other))
 
     def test_fates_are_told_apart_without_colour(self):
-        patterns = {(look.lines, look.ink) for look in LOOKS.values()}
+        patterns = {look.lines for look in LOOKS.values()}
         # The pixels of a tick in the lowest lane that there is.
         ticks = {tuple(any(top * 15 < row + .5 < bottom * 15 for top, bottom in look.pieces) for row in range(15))
                  for look in LOOKS.values()}

@@ -15,9 +15,8 @@ FILES = [
     ("as many bytes as a file may have", LONGEST, 3, b"hm: text 1 1 fields\n"),
     ("a byte more than a file may have", LONGEST + 1, 7, b"hm: long 1\n"),
 ]
-WORDS = [[], ["replay"], ["frob", "f"], ["replay", ""], ["replay", "-"], ["replay", "--help"], ["--help"],
-         ["replay", "f", ""], ["replay", "f", "-f"], ["replay", *"abcdefgh", "-"], ["REPLAY", "f"],
-         [b"replay", b"\xff"], [b"replay", b"f", b"\xff"], [b"\xff", b"f"]]
+WORDS = [[], [""], ["--help"], ["--versions", "64", "replay", "f"], [b"replay", b"\xff"], [b"replay", b"f", b"\xff"],
+         [b"\xff", b"f"], [b"replay", b"--low", b"\xff", b"f"], [b"generate", b"7", b"2", b"\xff"]]
 
 
 class Program(Built):

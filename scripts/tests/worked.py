@@ -34,9 +34,21 @@ def worked_file(name, item):
     return Worked(name, data.encode(), refusal=re.search(r"`(hm: [^`]+)`", item)[1])
 
 
+def worked_limits():
+    """The words, the rows and the report of the worked file with limits."""
+    text = content("docs", "FORMATS.md").decode().split("## A worked file with limits\n")[1].split("\n## ")[0]
+    words = re.search("`hm replay (--[^`]+) FILE`", text)[1].split()
+    data, report = blocks_of(text)
+    return words, data, report
+
+
+def blocks_of(text):
+    """The bytes of the indented blocks of a text."""
+    return [re.sub("(?m)^    ", "", block).encode() for block in re.findall(r"(?m)(?:^    .+\n)+", text)]
+
+
 def worked_pair():
     """The two worked files that are replayed together, and the two reports that this may print."""
     text = content("docs", "FORMATS.md").decode().split("## Two worked files together\n")[1].split("\n## ")[0]
-    blocks = re.findall(r"(?m)(?:^    .+\n)+", text)
-    first, second, *reports = [re.sub("(?m)^    ", "", block).encode() for block in blocks]
+    first, second, *reports = blocks_of(text)
     return (first, second), reports
