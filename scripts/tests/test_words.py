@@ -113,7 +113,8 @@ class Program(Built):
                 if wanted == "refused":
                     self.says(done, 2, err=b"hm: words\n")
                 elif words[0] == "replay":
-                    self.says(done, 7, err=b"hm: files 9\n") if len(words) > 9 else self.says(done, 4, err=b"hm: read 1\n")
+                    is_many = len(call_of(words).rest) > 8
+                    self.says(done, 7 if is_many else 4, err=b"hm: files 9\n" if is_many else b"hm: read 1\n")
                 else:
                     self.assertIn((done.returncode, done.stderr), ((0, b""), (6, b"hm: full 1\n")))
 
