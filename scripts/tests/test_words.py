@@ -33,7 +33,7 @@ REFUSED = [
     (["replay", "--high", "\u0661", "f"], "--high '\\u0661': " + PRICE),
     (["replay", "f", "--low"], "--low: " + PRICE + STANDS + "it is the last word"),
     (["replay", "--low", "--high", "4", "f"], "--low: " + PRICE + STANDS + "there stands --high, which begins with -"),
-    (["replay", "--versions", "-64", "f"], "--versions: a number from 64 to 65536" + STANDS + "there stands -64, which"),
+    (["replay", "--versions", "-64", "f"], "--versions: a number from 64 to 65536" + STANDS + "there stands -64, "),
     (["replay", "--low", "5", "--high", "4", "f"], "--low 5 --high 4: the least price is above the greatest"),
     (["replay", "--low=5", "f", "--low=5"], "--low: the option is given twice"),
     (["replay", "--vers", "64", "f"], "--vers: " + THERE + "--vers"),
@@ -48,8 +48,8 @@ REFUSED = [
     (["generate", "7", "9", "--low", "5"], "--low: no such option, there is --versions"),
 ]
 # Of such words the program takes some and refuses others.
-POOL = ("--versions", "--versions=64", "--low", "--low=9", "--high", "--high=3", "--max-quantity", "--low=", "--=", "--",
-        "--x", "-", "-5", "-v", "", "=", "f", "64", "64", "0", "7", "+7", "63", "5=", "1000001")
+POOL = ("--versions", "--versions=64", "--low", "--low=9", "--high", "--high=3", "--max-quantity", "--low=", "--=",
+        "--", "--x", "-", "-5", "-v", "", "=", "f", "64", "64", "0", "7", "+7", "63", "5=", "1000001")
 
 
 def table():
