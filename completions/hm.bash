@@ -5,7 +5,7 @@ _hm_options() {
     local command=$1 word=$2 given=" ${*:3} " option options=(--versions)
     [ "$command" = replay ] && options+=(--max-quantity --low --high)
     for option in "${options[@]}"; do
-        [[ $given != *" $option "* && $option = "$word"* ]] && COMPREPLY+=("$option")
+        [[ $given != *" $option"[\ =]* && $option = "$word"* ]] && COMPREPLY+=("$option")
     done
 }
 

@@ -45,8 +45,8 @@ def add_option(parser, name, told):
 
 def limits_of(words):
     """The limits among the words of a script, or Bad where no price is between the least and the greatest."""
-    limits = Limits(*(OPTIONS[name][2] if number is None else number for name, number in (
-        (name, getattr(words, name[2:].replace("-", "_"))) for name in LIMITS)))
+    given = zip(LIMITS, (words.max_quantity, words.low, words.high))
+    limits = Limits(*(OPTIONS[name][2] if number is None else number for name, number in given))
     if limits.low > limits.high:
         raise Bad(DISORDER % (limits.low, limits.high))
     return limits

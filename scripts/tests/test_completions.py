@@ -19,6 +19,8 @@ OFFERED = [
     (["replay", "f", "--m"], ["--max-quantity"]),
     (["replay", "--low", "5", "f", "--"], ["--versions", "--max-quantity", "--high"]),
     (["replay", "--low", "=", "5", "--l"], []),
+    (["replay", "--low=5", "--l"], []),
+    (["replay", "--low=5", "--low="], []),
     (["replay", "--versions", ""], []),
     (["replay", "--max-quantity", "4"], []),
     (["replay", "--low", ""], []),

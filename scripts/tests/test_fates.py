@@ -60,9 +60,9 @@ class Fates(Picture):
         self.assertEqual((list(LOOKS), len(patterns), len(ticks)), (list(FATES), len(FATES), len(FATES)))
 
     def test_areas_have_patterns_where_orders_are_gathered(self):
-        report = told_of(("rested", "cancelled", "unknown") * 400)
+        report = told_of(("rested", "cancelled", "unknown", "denied") * 400)
         found = self.picture(report)
-        for fate in ("rested", "cancelled", "unknown"):
+        for fate in ("rested", "cancelled", "unknown", "denied"):
             (pattern,) = [it for it in found.iter(SVG + "pattern") if it.get("id") == fate]
             self.assertEqual(pattern[1].get("d"), LOOKS[fate].lines)
             self.assertIn(".%s{fill:url(#%s) %s}" % (fate, fate, LOOKS[fate].colour), self.picture_text)

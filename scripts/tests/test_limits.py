@@ -52,7 +52,8 @@ class Denied(Case):
 
     def test_a_check_takes_the_limits_as_options_in_any_place(self):
         report, (quantity, most, low, least, high, greatest) = self.made(self.report, "report"), self.words
-        for words in ([*self.words, report, self.file], [report, *self.words, self.file], [report, self.file, *self.words],
+        for words in ([*self.words, report, self.file], [report, *self.words, self.file],
+                      [report, self.file, *self.words],
                       [low + "=" + least, report, quantity, "+0" + most, self.file, high, greatest],
                       [*self.words, "--", report, self.file]):
             with self.subTest(words):
@@ -122,6 +123,6 @@ class Denied(Case):
 
     def test_a_summary_is_no_report(self):
         summary = self.made(b"generated 7 2\nboard 2\nend 2 0 1\n", "report")
-        self.is_refused(self.script("report_svg", summary), "its line 1 is 'generated 7 2', but it is no line of a report")
+        self.is_refused(self.script("report_svg", summary), "'generated 7 2', but it is no line of a report")
         self.is_refused(self.script("report_csv", summary, self.folder), "its line 1 is 'generated 7 2'")
         self.assertEqual(self.script("report_check", summary, self.file).returncode, 1)

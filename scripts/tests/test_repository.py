@@ -11,7 +11,7 @@ SCRIPTS = ("bench", "bench_files", "explain", "generate_file", "ops", "report_ch
            "test")
 DOCUMENTS = ["README.md", "HACKING.md"] + sorted("docs/" + name for name in os.listdir(path("docs")))
 # A path begins with a name at the top of the repository. NAME and STORY stand for any name.
-PATH = re.compile(r"(?<![\w./-])(?:(?:\.ci|crates|demo|docs|scripts)/[\w./-]*\w|HACKING\.md|README\.md)")
+PATH = re.compile(r"(?<![\w./-])(?:(?:\.ci|completions|crates|demo|docs|scripts)/[\w./-]*\w|HACKING\.md|README\.md)")
 MADE = ("/out/",)  # what the programs make
 # What rt and the scripts' tests print and end with, and then the gate's last line and status.
 GATES = [
@@ -108,6 +108,22 @@ class Repository(Case):
                            ([self.folder], "cannot be run: Permission denied"), (["--repeats", "x"], "--repeats")):
             with self.subTest(words):
                 self.is_refused(self.call(self.folder + "/scripts/bench_files", rows, *words), "bench_files: ", why)
+
+    def test_versions_are_handed_on_to_hm_alone(self):
+        shutil.copytree(path("scripts"), self.folder + "/scripts", ignore=shutil.ignore_patterns("__pycache__"))
+        rows = self.made(b"L,1,B,10,5\n", "rows")
+        for name in ("crates/hm_tool/out/hm_tool", "peer"):
+            self.program(name, "", 0)
+            self.made(b"#!/bin/sh\necho $* >>%s/words\nprintf 'order 1 1 1 rested\\nboard 1\\nend 1 0 1\\n'\n"
+                      % os.fsencode(self.folder), name)
+        words = [rows, self.folder + "/peer", "--files", "1", "--repeats", "1"]
+        for more, given in ([], ""), (["--versions", "512"], "--versions 512 "):
+            done = self.call(self.folder + "/scripts/bench_files", *words, *more)
+            self.assertEqual((done.returncode, done.stderr), (0, b""))
+            with open(self.folder + "/words") as file:
+                calls = [re.sub(r"/\S+/", "", line) for line in file.read().splitlines()]
+            self.assertEqual(calls[-2:], ["replay %s1.csv" % given, "replay 1.csv"])
+        self.is_refused(self.call(self.folder + "/scripts/bench_files", *words, "--versions", "63"), "from 64 to 65536")
 
     def test_the_bench_gets_the_built_program(self):
         self.made(b"import sys\nprint(' '.join(sys.argv[1:]))\nsys.exit(7)\n", "bench.py")
