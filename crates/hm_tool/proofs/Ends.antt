@@ -1,5 +1,6 @@
 -- What the sink for errors was told when both sinks are written out.
-use Rattle.std.proofs.Common.{◌≡◌, ◌≢◌, ◌∙◌, ℕ, zero, suc, ◌≤◌, List, Option, None, Some, IfSome, inl, inr, refl, sym, subst, arith}
+use Rattle.std.proofs.Common.{◌≡◌, ◌≢◌, ◌∙◌, ◌⊎◌, ℕ, zero, suc, ◌≤◌, ◌<◌, length, List, Option, None, Some, IfSome, Ok, Vec, String, inl, inr, refl, sym, subst, arith}
+use Rattle.std.specs.declared.alloc.Global.{Global}
 use Rattle.hm_orders.specs.ReportText.{AddsFront}
 use Rattle.hm_cellbook.specs.declared.usage.BookUsage.{BookUsage}
 use Rattle.hm_cells.specs.Closing.{Ended}
@@ -7,7 +8,10 @@ use Rattle.hm_replay.specs.declared.conclusion.FullAt.{FullAt}
 use Rattle.hm_replay.specs.declared.refusal.Refused.{Refused}
 use Rattle.hm_replay.specs.declared.refusal.Refused.TheVariants.{Write}
 use Rattle.hm_replay.specs.Headline.{Headline, Replayed}
-use Rattle.hm_words.specs.Asked.{Wish}
+use Rattle.hm_replay.specs.Loading.{most_files}
+use Rattle.hm_replay.specs.Wishes.{IsPlain, names_of}
+use Rattle.hm_words.specs.Asked.{Wish, texts}
+use Rattle.hm_tool.specs.Program.{ArePlain, Words}
 use Rattle.hm_replay.specs.Outcomes.{SaysWhy, names_lost}
 use Rattle.hm_replay.specs.Refusals.{IsTold, message_of}
 
@@ -26,6 +30,30 @@ replayed : (told : List ℕ → Option (List ℕ)) (asked : Option Wish) (closed
     → IfSome asked (λ wish. Replayed told wish closed)
 replayed told None closed old new headline = tt
 replayed told (Some wish) closed old new headline = headline.replayed
+
+-- where too many files are named the program ends as the replay did
+pub files-later : (asked : Option Wish) (status last : ℕ) → (status ≢ 0 → last ≡ status)
+    → IfSome asked (λ wish. most_files < length (names_of wish) → (status ≡ 7) ⊎ (status ≡ 1))
+    → IfSome asked (λ wish. most_files < length (names_of wish) → (last ≡ 7) ⊎ (last ≡ 1))
+files-later None status last same files = tt
+files-later (Some wish) status last same files = λ many. elim (files many) [
+  | inl seven ↦ inl (same (λ (e : status ≡ 0). omega (arith, e, seven)) ∙ seven)
+  | inr one ↦ inr (same (λ (e : status ≡ 0). omega (arith, e, one)) ∙ one)
+]
+
+-- words in the plain form are those that the replay was given
+pub plain-words : (words : Words) (given : Vec (String Global) Global) (slice : List (String Global)) (status : ℕ)
+    → words ≡ Ok given → slice ≡ given.items → (IsPlain (texts slice) → status ≢ 2) → ArePlain words → status ≢ 2
+plain-words words given slice status is same run plain =
+    run (subst (λ items. IsPlain (texts items)) (sym same) (subst ArePlain is plain))
+
+-- and where the words have the plain form it does not end as if they were refused
+pub plain-later : (status last : ℕ) → (status ≢ 0 → last ≡ status) → (status ≡ 0 → last ≢ 0 → last ≡ 5)
+    → status ≢ 2 → last ≢ 2
+plain-later zero last same write plain two =
+    let five : last ≡ 5 = write refl (λ (e : last ≡ 0). omega (arith, e, two)) in omega (arith, five, two)
+plain-later (suc n) last same write plain two =
+    plain (sym (same (λ (e : suc n ≡ 0). omega (arith, e))) ∙ two)
 
 -- where no file was unread no name failed
 none_failed : (asked : Option Wish) (names : Option (List (List ℕ))) → names ≡ names_lost None asked names

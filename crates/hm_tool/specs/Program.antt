@@ -3,6 +3,7 @@ use Rattle.std.specs.Prelude.{◌≡◌, Vec, String, Option, None, Result, Ok, 
 use Rattle.std.specs.declared.alloc.Global.{Global}
 use Rattle.hm_edge.specs.declared.memory.Memory.{Memory}
 use Rattle.hm_words.specs.Asked.{Wish, asked, texts}
+use Rattle.hm_replay.specs.Wishes.{IsPlain}
 
 -- the words, or no memory for them
 abbrev pub Words : Type 0
@@ -17,3 +18,8 @@ asked_of (Err memory) = None
 abbrev pub AreRefused : Words → Type 0
 AreRefused (Ok words) = asked (texts words.items) ≡ None
 AreRefused (Err memory) = ⊥
+
+-- there are words, and they have the plain form of one of the two commands
+abbrev pub ArePlain : Words → Type 0
+ArePlain (Ok words) = IsPlain (texts words.items)
+ArePlain (Err memory) = ⊥

@@ -7,7 +7,7 @@ ghost use Rattle.hm_replay.specs.Headline.{Headline, IsReplayOf, PutsText};
 ghost use Rattle.hm_replay.specs.Wishes.{names_of};
 ghost use Rattle.hm_replay.specs.Outcomes.{HasFront, SaysWhy};
 ghost use Rattle.hm_replay.specs.Refusals.{IsTold};
-ghost use Rattle.hm_tool.specs.Program.{AreRefused, asked_of};
+ghost use Rattle.hm_tool.specs.Program.{ArePlain, AreRefused, asked_of};
 
 use hm_desk::NoGate;
 use hm_edge::{Finish, Memory, Shelf, Sink};
@@ -46,6 +46,7 @@ pub(crate) fn program<R: Threads + Sync, S: Shelf, K: Finish, E: Finish>(
         (E.written err.old) (E.written err.new) (E.faults err.old) (E.faults err.new) }
     ensures words { result.status ≡ 2 → AreRefused words }
     ensures refused { AreRefused words → (result.status ≡ 2) ⊎ (result.status ≡ 1) }
+    ensures plain { ArePlain words → result.status ≢ 2 }
     ensures files { IfSome (asked_of words) (λ wish.
         most_files < length (names_of wish) → (result.status ≡ 7) ⊎ (result.status ≡ 1)) }
     ensures read { result.status ≡ 4 → Rose (S.faults shelf.old) (S.faults shelf.new) }
@@ -97,6 +98,7 @@ fn replay_words<R: Threads + Sync, S: Shelf, K: Sink, E: Sink>(
         (E.written err.old) (E.written err.new) (E.faults err.old) (E.faults err.new) }
     ensures words { result.status ≡ 2 → AreRefused words }
     ensures refused { AreRefused words → (result.status ≡ 2) ⊎ (result.status ≡ 1) }
+    ensures plain { ArePlain words → result.status ≢ 2 }
     ensures files { IfSome (asked_of words) (λ wish.
         most_files < length (names_of wish) → (result.status ≡ 7) ⊎ (result.status ≡ 1)) }
     ensures read { result.status ≡ 4 → Rose (S.faults shelf.old) (S.faults shelf.new) }

@@ -19,5 +19,5 @@ mod read;
 mod tests;
 
 pub use asked::{Asked, Settings, WordsRefused};
-pub use laws::{a_plain_generate_is_asked, a_plain_replay_is_asked};
+pub use laws::{a_plain_generate_is_asked, a_plain_replay_is_asked, there_are_plain_words};
 pub use read::read_words;

@@ -1,9 +1,8 @@
 -- The heap starts with an empty book, and each pass is ready for its file.
-use Rattle.std.proofs.Common.{rules, ◌≡◌, ◌∙◌, ℕ, All, Vec, Global, List, length, map, refl, ap, sym, subst}
+use Rattle.std.proofs.Common.{rules, ◌≡◌, ◌∙◌, Vec, Global, List, length, map, refl, ap, sym, subst}
 use Rattle.std.proofs.lemmas.List.{take_all, length-map}
 use Rattle.hm_orders.specs.declared.order.Order.{Order}
 use Rattle.hm_moves.specs.declared.part.Site.{Site}
-use Rattle.hm_cells.specs.Facts.{sight_of}
 use Rattle.hm_agreement.specs.Spelled.{IsBookStart}
 use Rattle.hm_agreement.proofs.BookStart.{opening_lawful}
 use Rattle.hm_cellbook.specs.declared.usage.BookUsage.{BookUsage}
