@@ -39,7 +39,7 @@ module _ {U : Type 0} (lawful : U → PlainStore → Type 0) (allowed : U → Pl
         (subst (IsWritten t.part.draft.written i) zero_word
         (written_here lawful allowed s t (Builds (StoreOwn i word)) word sound after took i word refl low (inr
         (inl zero_word)))))
-        (λ ne. written_stays lawful allowed s t (Builds (StoreOwn i word)) word sound after took j 0 refl
+        (λ ne. written_stays lawful allowed s t (Builds (StoreOwn i word)) word sound after took tt j 0 refl
         (λ k w e same. ne (sym same ∙ own k w e)) (h j some (omega arith)) (inr (inl refl)))
       where
         own : (k w : ℕ) → Builds (StoreOwn i word) ≡ Builds (StoreOwn k w) → k ≡ i

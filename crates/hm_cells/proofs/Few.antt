@@ -1,6 +1,6 @@
 -- Few versions are held, since one that is not named is let go.
 use Rattle.std.proofs.Common.{◌≡◌, ◌⊎◌, ◌≤◌, ◌+◌, ℕ, zero, suc, Bool, true, false, true≢false, not, filter, eq-eqb, ne_eqb, List, [], ◌∷◌, ◌++◌, length, map, Option, Some, None, IfSome, Contains, unwrap_or, refl, sym, ap, ◌∙◌, arith, inl, inr, length-append}
-use Rattle.hm_cells.proofs.Words.{Contains-append_left, Contains-append_right, contains_behind, contains_first, contains_here, filter_still, common_steps, ◌==◌, list_any, option_map, length-map, Version, Known, Looks, Builds, StoreOwn, Publish, LinkStore, is_version, without, with_held, publishes, Found, IsLink, AreApart, first_idle, is_kept}
+use Rattle.hm_cells.proofs.Words.{Contains-append_left, Contains-append_right, contains_behind, contains_first, contains_here, filter_still, common_steps, ◌==◌, list_any, option_map, length-map, Version, Known, Looks, Builds, Ticks, Shifts, StoreOwn, Publish, LinkStore, Shorten, is_version, without, with_held, publishes, Found, IsLink, AreApart, first_idle, is_kept}
 use Rattle.hm_moves.specs.declared.moving.Act.{Act}
 use Rattle.hm_cells.proofs.Found.{any_none, find_none, held_after}
 use Rattle.hm_cells.proofs.Ready.{idle_held}
@@ -95,6 +95,9 @@ pub not_both : (act : Act) (x : ℕ) (found : Option Known) → Found act x foun
 not_both (Looks l) x found h = inr refl
 not_both (Builds (StoreOwn i word)) x found h = inr refl
 not_both (Builds (Publish fresh)) x found h = inl h
+not_both (Builds (Shorten at i target)) x found h = inr refl
+not_both (Ticks t) x found h = inr refl
+not_both (Shifts f) x found h = inr refl
 not_both (Builds (LinkStore at fresh entry)) zero found h = inl (nothing found h)
   where
     nothing : (o : Option Known) → IsLink at 0 o → o ≡ None

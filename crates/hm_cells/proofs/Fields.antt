@@ -1,7 +1,10 @@
 -- The acts that load words, and what they take into the hand.
 use Rattle.std.proofs.Common.{◌≡◌, ◌⊎◌, ◌<◌, ◌≤◌, ◌+◌, ◌-◌, ◌*◌, ◌^◌, ℕ, suc, Bool, true, false, eqb-true, Option, Some, None, IfSome, if◌then◌else◌, refl, sym, ap, ◌∙◌, arith, nat_lt, inl, inr}
 use Rattle.hm_cells.proofs.Words.{◌==◌, option_to_list, Shape, Version, version_count, word_at, naming_word, Name, Entry, Known, Part, Look, Looks, LoadStamp, LoadReference, LoadNumber, LoadLink, IsFit, word_of, field_look, HasHand, MayHold, MayLookInto, MayLook, Found, IsReference, IsLink, LookFound, taken, version_in}
+use Rattle.std.proofs.Math.Nat.{mul-le-mul_left}
 use Rattle.std.proofs.lemmas.Nat.{mul-le}
+use Rattle.hm_moves.specs.Places.{rank_limit}
+use Rattle.hm_cells.specs.Facts.{most_cycles}
 use Rattle.std.proofs.lemmas.Bool.Decides.{nat_tests}
 
 -- a word from 1 to 15 is the stamp, a reference or a number
@@ -17,9 +20,10 @@ field_cases P k i some low a b c = go (i == 1) refl (nat_lt i 6) refl
     go false e false f = c (i - 6) (grind (arith, nat_tests)) (grind (arith, nat_tests))
 
 module _ {U : Type 0} (p : Part U) (k : Known) (i : ℕ) (some : 0 < i) (low : i < 16) where
-  pub take_field : (known : Name → Type 0) (make : Entry → Type 0) → MayLookInto p k
-      → MayLook known make p (field_look k i)
-  take_field known make look = field_cases (MayLook known make p) k i some low
+  pub take_field : (known : Name → Type 0) (make : Entry → Type 0) (clean : Type 0)
+      (later : Known → ℕ → Known → Type 0) → MayLookInto p k
+      → MayLook known make clean later p (field_look k i)
+  take_field known make clean later look = field_cases (MayLook known make clean later p) k i some low
       (λ e. record { look = look; word = tt; reads = tt; may = tt })
       (λ j small e. record { look = look; word = small; reads = tt; may = tt })
       (λ j small e. record { look = look; word = small; reads = tt; may = tt })
@@ -39,6 +43,21 @@ pub shape_small : (s : Shape) → version_count s ≤ 2097152
 shape_small s =
     let a = mul-le s.callers s.regions 8 4 s.callers_fit.1 (let e = s.regions_fit in omega arith) in
     let b = mul-le (s.callers * s.regions) s.versions 32 65536 a s.versions_fit.1 in omega arith
+
+-- no rank reaches the limit that holds once no more cycles can be counted
+pub rank_most : (s : Shape) (done : ℕ) (k : Known) → done < most_cycles → IsFit s (done + 1) k
+    → k.rank < rank_limit s most_cycles
+rank_most s done k few fit =
+    let more : version_count s * (done + 1 + 1) ≤ version_count s * (most_cycles + 1) =
+    mul-le-mul_left (version_count s) (omega (arith, few)) in
+    let low = fit.rank in omega (arith, low, more)
+
+-- which fits a word
+pub rank_word : (s : Shape) (k : Known) → k.rank < rank_limit s most_cycles → k.rank < 4503599627370496
+rank_word s k low =
+    let all : version_count s * (most_cycles + 1) ≤ 2097152 * 1073741825 =
+    mul-le (version_count s) (most_cycles + 1) 2097152 1073741825 (shape_small s) (omega arith) in
+    omega (arith, low, all)
 
 -- a word that names a version says which
 pub naming_in : (v : Version) → version_in (naming_word (Some v)) ≡ Some v

@@ -1,9 +1,11 @@
 -- What a move of a good machine tells the caller that makes it.
 use Rattle.std.proofs.Common.{◌≡◌, ℕ, Bool, true, false, List, [], ◌∷◌, ◌++◌, slice_index, Option, Some, None, IfSome, Contains, if◌then◌else◌, eqb-true, refl, sym, ap, subst, ◌+◌}
 use Rattle.hm_cells.proofs.Words.{each_some, from_some, list_any, Any-from_list_any, Contains-push, Name, Entry, PlainStore, IsThere, Stands, store_of, UsageLaws, Known, Site, Part, View, Move, Index, IsPublished, word_of, publishes, finds, next_version, index_with, is_version, without}
-use Rattle.hm_cells.proofs.Words.{with_held, part_after, view_after, Enabled, HasRoom, IsLawfulMove, Begins, PartIsGood, Core, Good, Carries, applied, Found, others_only, published_once, held_stays, set_here, good_step, enabled_lawful, Knowledge, Learnt}
+use Rattle.hm_cells.proofs.Words.{IsOfCells, with_held, part_after, view_after, Enabled, HasRoom, IsLawfulMove, Begins, PartIsGood, Core, Good, Carries, applied, Found, others_only, published_once, held_stays, set_here, good_step, enabled_lawful, Knowledge, Learnt}
+use Rattle.hm_moves.specs.Allowed.{HoldsClean, IsLaterThan}
 use Rattle.hm_moves.proofs.Finding.{entry_by, found_now, fresh_now, next_now, index_more, index_here}
 use Rattle.hm_cells.proofs.Sure.{sure_of}
+use Rattle.hm_cells.proofs.Working.{index_still, is_work}
 
 -- a list with a version has one of its number
 has_number : (l : List Known) (k : Known)
@@ -45,7 +47,7 @@ module _ {U : Type 0} (lawful : U → PlainStore → Type 0) (allowed : U → Pl
   module _ (c : Core U) (id place : ℕ) (k : Knowledge U) (p : Part U) (m : Move)
       (good : Good lawful allowed p.site c)
       (at : Carries c.views id place k.view p)
-      (may : IsLawfulMove lawful allowed c.heap.history p m) where
+      (may : IsLawfulMove lawful allowed c.heap p m) (work : IsOfCells m.act) where
     abbrev v : View U
     v = k.view
 
@@ -73,6 +75,12 @@ module _ {U : Type 0} (lawful : U → PlainStore → Type 0) (allowed : U → Pl
     abbrev make : Entry → Type 0
     make e = Stands (store_of c.heap.history) e → allowed p.site.usage (store_of c.heap.history) e
 
+    abbrev clean : Type 0
+    clean = HoldsClean c.heap.words p
+
+    abbrev later : Known → ℕ → Known → Type 0
+    later = IsLaterThan p.site.shape c.heap
+
     after : Good lawful allowed p.site (applied c id place v p m)
     after = good_step lawful allowed laws p.site c id place v p m good at may
 
@@ -86,15 +94,18 @@ module _ {U : Type 0} (lawful : U → PlainStore → Type 0) (allowed : U → Pl
     index = index_with c.heap.index (publishes m.act x)
 
     held : (n : Known) → Contains new.hands.held n → IsPublished index n
-    held = (after.parts id place w new at_after).hands.held
+    held n there = subst (λ (i : Index). IsPublished (index_with i (publishes m.act x)) n)
+        (index_still p.site.shape c.heap.places c.heap.index m.act work x)
+        ((after.parts id place w new at_after).hands.held n there)
 
     was_found : Found m.act x found × IfSome found (IsPublished c.heap.index)
-    was_found = found_now lawful allowed c.heap v.seen p good.heap mine names make m.act may.act x refl
+    was_found = found_now lawful allowed c.heap v.seen p good.heap mine names make clean later m.act
+        (is_work m.act work) may.act x refl
 
     there : IfSome found (IsPublished index)
     there = map_some (IsPublished c.heap.index) (IsPublished index) found
         (λ n is here. index_more c.heap.index (publishes m.act x) n
-        (fresh_now lawful allowed c.heap v.seen p good.heap mine names make m.act may.act x) here)
+        (fresh_now lawful allowed c.heap v.seen p good.heap mine names make clean later m.act may.act x) here)
         was_found.1
 
     abbrev left : List Known
@@ -115,7 +126,7 @@ module _ {U : Type 0} (lawful : U → PlainStore → Type 0) (allowed : U → Pl
       others = others_only p.number v.seen c.heap.history p.calls.mine begins.rest begins.is mine.calls.all
           mine.calls.seen;
       what = was_found.0;
-      by = entry_by lawful allowed c.heap v.seen p good.heap mine names make m.act may.act x;
+      by = entry_by lawful allowed c.heap v.seen p good.heap mine names make clean later m.act may.act x;
       is = ap learnt_now begins.is;
       sure = sure_of lawful allowed p.site (applied c id place v p m) id place w new after at_after;
       holds = added_before index left (publishes m.act x) held (without p.hands.held m.let_go) found refl
@@ -127,13 +138,13 @@ module _ {U : Type 0} (lawful : U → PlainStore → Type 0) (allowed : U → Pl
             added index left (publishes m.act x) held n is (index_here c.heap.index
                 (publishes m.act x) n is),
           ))
-          (next_now lawful allowed c.heap v.seen p good.heap mine names make m.act may.act x);
+          (next_now lawful allowed c.heap v.seen p good.heap mine names make clean later m.act may.act x);
     }
 
   -- every enabled move of a good machine tells this
   pub learnt_of : (g : Site U) (c : Core U) (id place : ℕ) (k : Knowledge U) (p : Part U) (m : Move)
       → (good : Good lawful allowed g c) → (at : Carries c.views id place k.view p)
-      → Enabled lawful allowed k.view.seen p m
+      → Enabled lawful allowed k.view.seen p m → IsOfCells m.act
       → Learnt lawful allowed m k place p (slice_index c.heap.words (word_of p m.act))
       (record k {
         view = view_after k.view place c.heap.history p m (slice_index c.heap.words (word_of p m.act))
@@ -141,7 +152,7 @@ module _ {U : Type 0} (lawful : U → PlainStore → Type 0) (allowed : U → Pl
         steps = k.steps + 1;
         before = [];
       })
-  learnt_of g c id place k p m good at may =
+  learnt_of g c id place k p m good at may work =
       own_learnt c id place k p m
       (subst (λ (z : Site U). Good lawful allowed z c) (sym (good.parts id place k.view p at).site) good) at
-      (enabled_lawful lawful allowed g c id place k.view p m good at may)
+      (enabled_lawful lawful allowed g c id place k.view p m good at may) work

@@ -1,5 +1,7 @@
 -- words and lemmas from lower crates, for all of these
 pub mod Words
+-- what a look or a build leaves as it was
+pub mod Working
 -- what a caller is sure of, and what a step tells it
 pub mod Sure
 pub mod Learning

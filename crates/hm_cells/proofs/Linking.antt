@@ -1,6 +1,6 @@
 -- When a pass may exchange a link for its next version, and what that leaves.
 use Rattle.std.proofs.Common.{◌≡◌, ◌≤◌, ◌+◌, ◌^◌, ℕ, zero, suc, Bool, ne_eqb, [], ◌∷◌, ◌++◌, Option, Some, None, IfSome, Contains, if◌then◌else◌, refl, sym, ap, ◌∙◌, subst, arith, inl}
-use Rattle.hm_cells.proofs.Words.{◌==◌, option_to_list, length-map, Seat, Shape, Version, word_at, naming_word, Root, Entry, PlainStore, MayEnter, name_of, Known, Builds, LinkStore, IsFit, IsKnownField, IsKnownName, Turns, HasHand, HasRoom, done_seen, becomes, publishes, next_version, count_of, part_after}
+use Rattle.hm_cells.proofs.Words.{◌==◌, option_to_list, length-map, Seat, Shape, Version, word_at, naming_word, Root, Entry, PlainStore, MayEnter, name_of, Known, Builds, LinkStore, IsFit, IsKnownField, IsKnownName, Turns, HasHand, HasRoom, done_limit, becomes, publishes, next_version, count_of, part_after}
 use Rattle.hm_cells.proofs.Words.{IsLink, Knowledge, Want, Nothing, Fetch, Store, StoreIf, Gripped, Facts, Fits, Made, IsLookable, known_at, sight_of, IsWholeCopy, MayChange, MayStore, field_of, linked, move_by, stored, taken, turned, Exchanges, IsReady, IsSeated, Learns, facts_of, Takes, some_more}
 use Rattle.hm_moves.specs.declared.moving.Act.{Act}
 use Rattle.hm_cells.specs.declared.want.WantField.{WantField}
@@ -103,7 +103,7 @@ module _ {U : Type 0} where
           let whole' : IsWholeCopy s.part (turned s k want) =
           subst (λ (f : Facts U). IsWholeCopy f.part (turned f (known_at f v) want)) (sym is) whole in
           ready lawful allowed seat grip shape number to used seated act
-          (Exchanges (move_by s act) (word_at m.site.shape v 0) (naming_word (Some next)))
+          (Exchanges (move_by s act) (word_at m.site.shape v 0) (naming_word (Some next))) tt
           record {
             look = (known_look s v look).0;
             later = record {
@@ -114,6 +114,7 @@ module _ {U : Type 0} where
               link = whole'.link;
               built = whole'.built;
             };
+            copies = tt;
             turns = want_turns s k want long
                 (subst (λ (f : Facts U). MayStore f (known_at f v) want) (sym is) may);
             may = (subst (λ (f : Facts U). MayEnter lawful allowed (sight_of f) (stored f (known_at f v) want))
@@ -133,10 +134,10 @@ module _ {U : Type 0} where
         found = (learns s.part seated.own).found
 
         small : x ≤ 2 ^ 32
-        small = small_link s.part.site.shape (done_seen s.part) x k found
+        small = small_link s.part.site.shape (done_limit s.part) x k found
             (learns s.part seated.own).what
             (some_more (Contains (part_after s.part (move_by s act) x found).hands.held)
-            (IsFit s.part.site.shape (done_seen s.part)) (λ n h. (learns s.part seated.own).sure.fit n (inl h))
+            (IsFit s.part.site.shape (done_limit s.part)) (λ n h. (learns s.part seated.own).sure.fit n (inl h))
             found (learns s.part seated.own).holds)
 
         -- the pass is seated, and took the exchange, which found this word
@@ -152,7 +153,7 @@ module _ {U : Type 0} where
         exchanged named took hand used' more word e =
             subst (λ (w : ℕ). Exchanged w used') (sym e)
             (moved lawful allowed seat seat' grip grip' shape number to used seated o is
-            (λ f. link_by f v want) x learns table slots named took hand used' more)
+            (λ f. link_by f v want) x tt learns table slots named took hand used' more)
 
         -- where 0 was found, the next version is published, and taken into the hand
         pub made_now : (x ≤ 2 ^ 32 → 0 ≡ x)

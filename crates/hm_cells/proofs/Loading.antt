@@ -1,6 +1,6 @@
 -- When a pass may load a word, and what its load leaves.
-use Rattle.std.proofs.Common.{◌≡◌, ◌≢◌, ◌⊎◌, ◌<◌, ◌≤◌, ◌+◌, ◌^◌, ◌++◌, ℕ, Option, Some, None, IfSome, Contains, refl, sym, ap, ◌∙◌, subst, arith}
-use Rattle.hm_cells.proofs.Words.{option_to_list, Seat, Shape, Version, IsVersionOf, word_at, naming_word, Entry, PlainStore, Known, Site, Look, Looks, LoadLink, IsFit, IsKnownName, Reads, HasHand, done_seen, MayMake}
+use Rattle.std.proofs.Common.{◌≡◌, ◌≢◌, ◌⊎◌, ◌<◌, ◌≤◌, ◌+◌, ◌^◌, ◌++◌, ℕ, true, Option, Some, None, IfSome, Contains, refl, sym, ap, ◌∙◌, subst, arith}
+use Rattle.hm_cells.proofs.Words.{option_to_list, Seat, Shape, Version, IsVersionOf, word_at, naming_word, Entry, PlainStore, Known, Site, Look, Looks, LoadLink, IsFit, IsKnownName, Reads, HasHand, done_limit, MayMake}
 use Rattle.hm_cells.proofs.Words.{part_after, field_look, Knowledge, Gripped, Facts, Fits, Made, IsLookable, known_at, move_by, version_in, IsReady, IsSeated, Learns, Loads, facts_of, Takes, some_more}
 use Rattle.hm_cells.proofs.Fields.{take_field, hold_field, place_field, hand_field, hand_link, small_link, named_in}
 use Rattle.hm_cells.proofs.Moved.{moved}
@@ -20,8 +20,8 @@ module _ {U : Type 0} (lawful : U → PlainStore → Type 0) (allowed : U → Pl
     look : IsLookable s v
     look = subst (λ (f : Facts U). IsLookable f v) (sym is) looked
 
-    pub load_fit : IsFit o.part.site.shape (done_seen o.part) (known_at o v)
-    load_fit = subst (λ (f : Facts U). IsFit f.part.site.shape (done_seen f.part) (known_at f v)) is
+    pub load_fit : IsFit o.part.site.shape (done_limit o.part) (known_at o v)
+    load_fit = subst (λ (f : Facts U). IsFit f.part.site.shape (done_limit f.part) (known_at f v)) is
         (look_fit lawful allowed s v seated.sound look)
 
     module _ (m : Made U) (fits : Fits o m) where
@@ -40,9 +40,10 @@ module _ {U : Type 0} (lawful : U → PlainStore → Type 0) (allowed : U → Pl
           (Loads (move_by s (Looks (field_look k i))) (word_at m.site.shape v i))
       field_ready i some low hand =
           ready lawful allowed seat grip shape number to used seated (Looks (field_look k i))
-          (Loads (move_by s (Looks (field_look k i))) (word_at m.site.shape v i))
+          (Loads (move_by s (Looks (field_look k i))) (word_at m.site.shape v i)) tt
           (take_field s.part k i some low (IsKnownName s.part)
           (MayMake (lawful s.part.site.usage) (allowed s.part.site.usage) s.seen s.part.number)
+          (s.part.cycle.scan.bare ≡ true) (λ at j target. ⊥)
           (known_look s v look).0)
           (hold_field s.part k i some low (subst (λ (f : Facts U). HasHand f.part) (sym is) hand))
           record { place = place_field s.part k i some low ∙ word_here i; stays = λ x. refl }
@@ -54,7 +55,7 @@ module _ {U : Type 0} (lawful : U → PlainStore → Type 0) (allowed : U → Pl
           (Loads (move_by s (Looks (LoadLink k want))) (word_at m.site.shape v 0))
       link_ready want hand reads may =
           ready lawful allowed seat grip shape number to used seated (Looks (LoadLink k want))
-          (Loads (move_by s (Looks (LoadLink k want))) (word_at m.site.shape v 0))
+          (Loads (move_by s (Looks (LoadLink k want))) (word_at m.site.shape v 0)) tt
           record { look = (known_look s v look).0; word = tt; reads = reads; may = may }
           (subst (λ (f : Facts U). HasHand f.part) (sym is) hand)
           record { place = word_here 0; stays = λ x. refl }
@@ -65,10 +66,10 @@ module _ {U : Type 0} (lawful : U → PlainStore → Type 0) (allowed : U → Pl
     abbrev found : Option Known
     found = (learns s.part seated.own).found
 
-    found_fit : IfSome found (IsFit s.part.site.shape (done_seen s.part))
+    found_fit : IfSome found (IsFit s.part.site.shape (done_limit s.part))
     found_fit = some_more
         (Contains (part_after s.part (move_by s (Looks l)) x found).hands.held)
-        (IsFit s.part.site.shape (done_seen s.part))
+        (IsFit s.part.site.shape (done_limit s.part))
         (λ n h. (learns s.part seated.own).sure.fit n (Rattle.std.proofs.Common.inl h)) found
         (learns s.part seated.own).holds
 
@@ -84,8 +85,8 @@ module _ {U : Type 0} (lawful : U → PlainStore → Type 0) (allowed : U → Pl
         × Takes lawful allowed o (Looks (field_look (known_at o v) i)) x (facts_of seat' grip')
     field_now i some low learns in_range none =
         moved lawful allowed seat seat' grip grip' shape number to used seated o is
-        (λ f. Looks (field_look (known_at f v) i)) x learns table slots named took
-        (sym (hand_field s.part.site.shape (done_seen s.part) (known_at s v) i x
+        (λ f. Looks (field_look (known_at f v) i)) x tt learns table slots named took
+        (sym (hand_field s.part.site.shape (done_limit s.part) (known_at s v) i x
         (learns s.part seated.own).found named some low (learns s.part seated.own).what
         (found_fit seat' (field_look (known_at s v) i) x learns) in_range none))
         used (omega arith)
@@ -95,7 +96,7 @@ module _ {U : Type 0} (lawful : U → PlainStore → Type 0) (allowed : U → Pl
         seat'.me.0) where
       -- the word of a link is small
       pub link_small : x ≤ 2 ^ 32
-      link_small = small_link s.part.site.shape (done_seen s.part) x (known_at s v)
+      link_small = small_link s.part.site.shape (done_limit s.part) x (known_at s v)
           (learns s.part seated.own).found
           (learns s.part seated.own).what (found_fit seat' (LoadLink (known_at s v) (want s)) x learns)
 
@@ -107,7 +108,7 @@ module _ {U : Type 0} (lawful : U → PlainStore → Type 0) (allowed : U → Pl
       link_now names =
           let e = names link_small in
           let both = moved lawful allowed seat seat' grip grip' shape number to used seated o is
-          (λ f. Looks (LoadLink (known_at f v) (want f))) x learns table slots named took
+          (λ f. Looks (LoadLink (known_at f v) (want f))) x tt learns table slots named took
           (ap option_to_list (named_in named x e)
           ∙ sym (hand_link (known_at s v) (want s) x (learns s.part seated.own).found
           (learns s.part seated.own).what))

@@ -1,11 +1,13 @@
 -- A pass whose seat took a move, as what its call leaves.
 use Rattle.std.proofs.Common.{◌≡◌, ◌⊎◌, ◌<◌, ◌+◌, ℕ, zero, suc, List, [], ◌∷◌, ◌++◌, length, get_or, map, Option, Some, None, IfSome, Contains, All, is_some, refl, sym, ap, ◌∙◌, subst, arith, inl, inr, ⊎_elim, append-nil, length-append}
 use Rattle.hm_cells.proofs.Words.{slice_get, option_to_list, All-append, All-contains_itself, Seat, Shape, Version, version_at, Entry, PlainStore, Known, Part, Site, set_here, some, some-injective, some-ne-none, get_elem?, entry_of, publishes, listed}
-use Rattle.hm_cells.proofs.Words.{next_version, count_of, part_after, Knowledge, Gripped, Facts, IsAmong, IsSure, IsSound, find_version, names_at, sight_of, Takes, Tells, after, move_by, taken, IsSeated, Learnt, Learns, caller_in, facts_of}
+use Rattle.hm_cells.proofs.Words.{IsOfCells, next_version, count_of, part_after, Knowledge, Gripped, Facts, IsAmong, IsSure, IsSound, find_version, names_at, sight_of, Takes, Tells, after, move_by, taken, IsSeated, Learnt, Learns, caller_in, facts_of}
 use Rattle.hm_moves.specs.declared.moving.Act.{Act}
+use Rattle.hm_moves.specs.Shifts.{readied}
 use Rattle.hm_cells.specs.Shows.{to_first}
 use Rattle.hm_cells.proofs.Found.{IsNamed, among, apart_after, named_stays, names_stay, there_found}
 use Rattle.hm_cells.proofs.Entered.{entered}
+use Rattle.hm_cells.proofs.Working.{still_readied}
 
 -- an element of a list that is longer by one
 more_places : {A : Type 0} (l : List A) (a b : A) (i : ℕ) → slice_get (l ++ a ∷ []) i ≡ Some b
@@ -65,7 +67,7 @@ first_in g (q ∷ qs) p e = some-injective q p e
 
 module _ {U : Type 0} (lawful : U → PlainStore → Type 0) (allowed : U → PlainStore → Entry → Type 0)
     (seat seat' : Seat (Unit {0}) (Knowledge U)) (grip grip' : Gripped U) (shape : Shape) (number to used : ℕ)
-    (act : Act) (x : ℕ) (seated : IsSeated lawful allowed seat (facts_of seat grip) shape number to used)
+    (act : Act) (work : IsOfCells act) (x : ℕ) (seated : IsSeated lawful allowed seat (facts_of seat grip) shape number to used)
     (learns : Learns lawful allowed (move_by (facts_of seat grip) act) 0 seat.me.0 x seat'.me.0)
     (table : seat'.table_id ≡ seat.table_id) (slots : seat'.me.1 ≡ seat.me.1) where
   abbrev s : Facts U
@@ -91,6 +93,10 @@ module _ {U : Type 0} (lawful : U → PlainStore → Type 0) (allowed : U → Pl
 
   abbrev u : Facts U
   u = after s act between x found
+
+  -- the caller's region stays, and so do its other versions
+  ready_is : readied p act x ≡ p
+  ready_is = still_readied p act work x
 
   new_there : get_elem? seat'.me.0.view.parts 0 ≡ some new
   new_there = ap (λ (k : Knowledge U). get_elem? k.view.parts 0) learnt.is
@@ -130,9 +136,14 @@ module _ {U : Type 0} (lawful : U → PlainStore → Type 0) (allowed : U → Pl
   sound_new : IsSound lawful allowed u
   sound_new = record {
     sure = sure;
-    count = count_more p.hands.own p.draft.used (publishes act x) seated.sound.count;
-    places = places_more (version_at p.site.shape p.number p.draft.region) p.hands.own p.draft.used (publishes act x)
-        seated.sound.count (next_places (publishes act x) learnt.next) seated.sound.places;
+    count = subst (λ (q : Part U). length (q.hands.own ++ listed (publishes act x))
+        ≡ q.draft.used + count_of (publishes act x)) (sym ready_is)
+        (count_more p.hands.own p.draft.used (publishes act x) seated.sound.count);
+    places = subst (λ (q : Part U). (i : ℕ) (k : Known)
+        → slice_get (q.hands.own ++ listed (publishes act x)) i ≡ Some k
+        → k.version ≡ version_at p.site.shape p.number q.draft.region i) (sym ready_is)
+        (places_more (version_at p.site.shape p.number p.draft.region) p.hands.own p.draft.used (publishes act x)
+        seated.sound.count (next_places (publishes act x) learnt.next) seated.sound.places);
     apart = apart_after s.roots s.hand p.hands.held found (publishes act x) seated.sound.apart;
     wide = seated.sound.wide;
     rooted = λ i d low. rooted (get_or s.roots i d) (All-contains_itself s.roots i d low)
@@ -184,9 +195,10 @@ module _ {U : Type 0} (lawful : U → PlainStore → Type 0) (allowed : U → Pl
       none = slots ∙ seated.none;
       shape_is = ap (λ (q : Part U). q.site.shape) part_is ∙ seated.shape_is;
       number_is = ap (λ (q : Part U). q.number) part_is ∙ seated.number_is;
-      to_is = ap to_first part_is ∙ seated.to_is;
+      to_is = ap to_first part_is ∙ (ap to_first ready_is ∙ seated.to_is);
       used_is = ap (λ (q : Part U). q.draft.used) part_is
-          ∙ (ap (λ (n : ℕ). n + count_of (publishes act x)) seated.used_is ∙ sym more);
+          ∙ (ap (λ (q : Part U). q.draft.used + count_of (publishes act x)) ready_is
+          ∙ (ap (λ (n : ℕ). n + count_of (publishes act x)) seated.used_is ∙ sym more));
       sound = sound_now;
     }
 
@@ -212,7 +224,7 @@ module _ {U : Type 0} (lawful : U → PlainStore → Type 0) (allowed : U → Pl
 module _ {U : Type 0} (lawful : U → PlainStore → Type 0) (allowed : U → PlainStore → Entry → Type 0)
     (seat seat' : Seat (Unit {0}) (Knowledge U)) (grip grip' : Gripped U) (shape : Shape) (number to used : ℕ)
     (seated : IsSeated lawful allowed seat (facts_of seat grip) shape number to used) (o : Facts U)
-    (is : facts_of seat grip ≡ o) (f : Facts U → Act) (x : ℕ)
+    (is : facts_of seat grip ≡ o) (f : Facts U → Act) (x : ℕ) (work : IsOfCells (f (facts_of seat grip)))
     (learns : Learns lawful allowed (move_by (facts_of seat grip) (f (facts_of seat grip))) 0 seat.me.0 x
     seat'.me.0)
     (table : seat'.table_id ≡ seat.table_id) (slots : seat'.me.1 ≡ seat.me.1) where
@@ -225,9 +237,9 @@ module _ {U : Type 0} (lawful : U → PlainStore → Type 0) (allowed : U → Pl
   moved named took hand used' more =
       let make : List Version → Gripped U = λ l. record grip { hand = grip.hand ++ l } in
       let grip_is = took ∙ ap make hand in (
-        seated_now lawful allowed seat seat' grip grip' shape number to used (f (facts_of seat grip)) x seated
-            learns table slots grip_is used' more,
+        seated_now lawful allowed seat seat' grip grip' shape number to used (f (facts_of seat grip)) work x
+            seated learns table slots grip_is used' more,
         subst (λ (s : Facts U). Takes lawful allowed s (f s) x (facts_of seat' grip')) is
-            (takes_now lawful allowed seat seat' grip grip' shape number to used (f (facts_of seat grip)) x
+            (takes_now lawful allowed seat seat' grip grip' shape number to used (f (facts_of seat grip)) work x
             seated learns table slots grip_is),
       )

@@ -42,7 +42,7 @@ module _ {U : Type 0} (lawful : U → PlainStore → Type 0) (allowed : U → Pl
       heap = record {
         words = words;
         index = fresh_index g.start;
-        places = fresh_places g.start;
+        places = fresh_places g.shape g.start;
         history = opening_of g.start;
       };
       views = first_view g ∷ [];
@@ -93,6 +93,7 @@ module _ {U : Type 0} (lawful : U → PlainStore → Type 0) (allowed : U → Pl
       core = fresh;
       good = good;
       depicts = record { words_are = refl; views_are = refl };
+      freed = λ row. refl;
       before = before_first;
     }
       where

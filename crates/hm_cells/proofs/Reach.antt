@@ -1,6 +1,6 @@
 -- In a good machine no version in reach is given out again, and each is given out once.
 use Rattle.std.proofs.Common.{◌≡◌, ◌≢◌, ◌⊎◌, ◌+◌, ◌*◌, ◌<◌, ◌≤◌, ℕ, zero, suc, true, slice_index, Option, Some, None, inl, inr, refl, sym, ap, ◌∙◌, subst, arith}
-use Rattle.hm_cells.proofs.Words.{dite, nat_tests, common_steps, Version, word_at, naming_word, Entry, PlainStore, store_of, Name, Known, Site, Part, View, IsPublished, reference_at, is_naming, next_version, HasRoom, Core, Good, Carries}
+use Rattle.hm_cells.proofs.Words.{dite, nat_tests, common_steps, Version, word_at, naming_word, Entry, PlainStore, store_of, Name, Known, Site, Part, View, IsPublished, reference_at, is_naming, next_version, HasRoom, Core, Good, Carries, FreesNone}
 use Rattle.hm_moves.specs.Chain.{Index, IsLinked, Refers}
 use Rattle.hm_moves.specs.Places.{row_count}
 use Rattle.hm_moves.proofs.Words.{dec_le}
@@ -93,14 +93,15 @@ module _ {U : Type 0} (lawful : U → PlainStore → Type 0) (allowed : U → Pl
         not_next k.0 j n w p k.1 at room (k.2 ∙ e);
   }
 
-  pub gives_once : GivesOnce g c
-  gives_once = record {
+  -- where no row was freed
+  pub gives_once : FreesNone c.heap → GivesOnce g c
+  gives_once none = record {
     made = λ row. made_used g.shape.versions (c.heap.places.made row) (c.heap.places.freed row)
-        (c.heap.places.used row) (good.heap.ranked.made row) (good.heap.ranked.freed row);
+        (c.heap.places.used row) (good.heap.ranked.made row) (none row);
     filled = good.heap.placed.filled;
     once = λ k m a b e. published_once c.heap.index k m a b e;
   }
     where
-      made_used : (n made freed used : ℕ) → made ≤ n * freed + used → freed ≤ 0 → made ≤ used
+      made_used : (n made freed used : ℕ) → made ≤ n * freed + used → freed ≡ 0 → made ≤ used
       made_used n made zero used a b = grind arith
       made_used n made (suc freed) used a b = absurd (omega arith)

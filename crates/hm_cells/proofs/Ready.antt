@@ -1,6 +1,6 @@
 -- When a pass may take a move, and what it knows of a version.
-use Rattle.std.proofs.Common.{◌≡◌, ℕ, not, List, Option, IfSome, Contains, unwrap_or, sym, ap, ◌∙◌, subst}
-use Rattle.hm_cells.proofs.Words.{each_some, Contains-append_cases, Seat, Shape, Version, IsVersionOf, Entry, PlainStore, Known, Part, IsFit, IsKnownName, MayHold, MayLookInto, MayTake, done_seen, MayMake, Knowledge, Gripped, Facts, Fits, Made, IsSound, IsLookable, first_idle, is_kept, known_at, lookable, nothing_known, move_by, IsReady, IsSeated, facts_of}
+use Rattle.std.proofs.Common.{◌≡◌, ℕ, true, not, List, Option, IfSome, Contains, unwrap_or, sym, ap, ◌∙◌, subst}
+use Rattle.hm_cells.proofs.Words.{each_some, Contains-append_cases, Seat, Shape, Version, IsVersionOf, Entry, PlainStore, Known, Part, IsFit, IsKnownName, MayHold, MayLookInto, MayTake, done_limit, MayMake, Knowledge, Gripped, Facts, Fits, Made, IsSound, IsLookable, first_idle, is_kept, known_at, lookable, nothing_known, move_by, IsOfCells, IsReady, IsSeated, facts_of}
 use Rattle.hm_moves.specs.declared.moving.Act.{Act}
 use Rattle.hm_cells.proofs.Found.{among, find_passes, found_there}
 
@@ -25,7 +25,7 @@ module _ {U : Type 0} where
 
   module _ (lawful : U → PlainStore → Type 0) (allowed : U → PlainStore → Entry → Type 0) where
     pub look_fit : (s : Facts U) (v : Version) → IsSound lawful allowed s → IsLookable s v
-        → IsFit s.part.site.shape (done_seen s.part) (known_at s v)
+        → IsFit s.part.site.shape (done_limit s.part) (known_at s v)
     look_fit s v sound look = sound.sure.fit (known_at s v) (known_look s v look).0
 
     -- such a version is one of the heap's
@@ -43,13 +43,15 @@ module _ {U : Type 0} where
       s = facts_of seat grip
 
       -- an act that the pass may take makes it ready
-      pub ready : (P : Part U → Type 0)
+      pub ready : (P : Part U → Type 0) → IsOfCells act
           → MayTake (IsKnownName s.part)
-          (MayMake (lawful s.part.site.usage) (allowed s.part.site.usage) s.seen s.part.number) s.part act
+          (MayMake (lawful s.part.site.usage) (allowed s.part.site.usage) s.seen s.part.number)
+          (s.part.cycle.scan.bare ≡ true) (λ at i target. ⊥) s.part act
           → MayHold s.part act → P s.part → IsReady lawful allowed seat.me.0 (move_by s act) 0 P
-      ready P may hold here = record {
+      ready P work may hold here = record {
         caller = s.part;
         carries = seated.own;
         enabled = record { act = may; holds = hold; let_go = idle_held s.roots s.hand s.part.hands.held };
+        works = work;
         moves = here;
       }

@@ -1,12 +1,13 @@
 -- What a move leaves of what a pass knew, for the calls that take several.
 use Rattle.std.proofs.Common.{◌≡◌, ◌≢◌, ◌⊎◌, ◌<◌, ◌≤◌, ◌+◌, ◌&&◌, ℕ, zero, suc, Bool, true, false, true≢false, List, [], ◌∷◌, ◌++◌, length, get_or, set, Option, Some, None, IfSome, Contains, unwrap_or, if◌then◌else◌, eqb-true, refl, sym, ap, ◌∙◌, subst, arith, inl, inr, ⊎_elim, get_or-set_same, get_or-set_other}
-use Rattle.hm_cells.proofs.Words.{each_some, from_some, common_steps, nat_tests, ◌==◌, All-contains, Contains-append_right, Version, naming_word, Entry, PlainStore, Known, Looks, Builds, LoadReference, LoadNumber, StoreOwn, Publish, LinkStore, IsFit, publishes, listed, field_look}
-use Rattle.hm_cells.proofs.Words.{is_naming, unnamed_from, unnamed, written_with, IsWritten, done_seen, Facts, IsHeldAt, IsLookable, IsSound, find_version, first_idle, known_at, lookable, nothing_known, Takes, taken}
+use Rattle.hm_cells.proofs.Words.{each_some, from_some, common_steps, nat_tests, ◌==◌, All-contains, Contains-append_right, Version, naming_word, Entry, PlainStore, Known, Part, Looks, Builds, Ticks, Shifts, LoadReference, LoadNumber, StoreOwn, Publish, LinkStore, Shorten, IsFit, publishes, listed, field_look}
+use Rattle.hm_cells.proofs.Words.{IsOfCells, is_naming, unnamed_from, unnamed, written_with, IsWritten, done_limit, Facts, IsHeldAt, IsLookable, IsSound, find_version, first_idle, known_at, lookable, nothing_known, Takes, taken}
 use Rattle.hm_moves.specs.declared.moving.Act.{Act}
 use Rattle.hm_cells.proofs.Fields.{field_cases}
 use Rattle.hm_cells.proofs.Few.{few_after, not_both}
 use Rattle.hm_cells.proofs.Found.{IsNamed, among, at_place, found_first, idle_other, named_stays, there_found, there_is}
 use Rattle.hm_cells.proofs.Ready.{known_look, look_fit}
+use Rattle.hm_cells.proofs.Working.{still_readied}
 
 -- a word of a version, by which act it is loaded
 pub reference_look : (k : Known) (i : ℕ) → i < 4 → field_look k (2 + i) ≡ LoadReference k i
@@ -69,7 +70,7 @@ module _ {U : Type 0} (lawful : U → PlainStore → Type 0) (allowed : U → Pl
   known_version s v look = (known_look s v look).1
 
   pub known_fit : (s : Facts U) (v : Version) → IsSound lawful allowed s → IsLookable s v
-      → IsFit s.part.site.shape (done_seen s.part) (known_at s v)
+      → IsFit s.part.site.shape (done_limit s.part) (known_at s v)
   known_fit s v sound look = look_fit lawful allowed s v sound look
 
   -- a version that is held is what is known of its number
@@ -165,15 +166,18 @@ module _ {U : Type 0} (lawful : U → PlainStore → Type 0) (allowed : U → Pl
         grind (arith, common_steps, nat_tests)) r)
         safe)
 
-    written_is : t.part.draft.written ≡ unnamed idle (written_with s.part.draft.written act (publishes act x))
-    written_is = ap (λ (f : Facts U). f.part.draft.written) took.is
+    written_is : IsOfCells act
+        → t.part.draft.written ≡ unnamed idle (written_with s.part.draft.written act (publishes act x))
+    written_is work = ap (λ (f : Facts U). f.part.draft.written) took.is
+        ∙ ap (λ (q : Part U). unnamed idle (written_with q.draft.written act (publishes act x)))
+        (still_readied s.part act work x)
 
     -- such a word stays written, where the act publishes nothing and stores another word or none
-    pub written_stays : (j w : ℕ) → publishes act x ≡ None
+    pub written_stays : IsOfCells act → (j w : ℕ) → publishes act x ≡ None
         → ((i word : ℕ) → act ≡ Builds (StoreOwn i word) → i ≢ j)
         → IsWritten s.part.draft.written j w → IsSafe j w → IsWritten t.part.draft.written j w
-    written_stays j w none other was safe =
-        subst (λ (l : List (Option ℕ)). IsWritten l j w) (sym written_is)
+    written_stays work j w none other was safe =
+        subst (λ (l : List (Option ℕ)). IsWritten l j w) (sym (written_is work))
         (unnamed_still idle (written_with s.part.draft.written act (publishes act x)) j w
         (subst (λ (o : Option Known). IsWritten (written_with s.part.draft.written act o) j w) (sym none)
         (before act other))
@@ -186,6 +190,9 @@ module _ {U : Type 0} (lawful : U → PlainStore → Type 0) (allowed : U → Pl
             get_or-set_other s.part.draft.written i j (Some word) None (λ e. f i word refl (sym e)) ∙ was
         before (Builds (Publish fresh)) f = was
         before (Builds (LinkStore at fresh entry)) f = was
+        before (Builds (Shorten at i target)) f = was
+        before (Ticks t) f = was
+        before (Shifts h) f = was
 
     -- and so does one that the act stores
     pub written_here : (i word : ℕ) → act ≡ Builds (StoreOwn i word) → i < 16 → IsSafe i word
@@ -195,6 +202,7 @@ module _ {U : Type 0} (lawful : U → PlainStore → Type 0) (allowed : U → Pl
         let here : IsWritten (written_with s.part.draft.written act (publishes act x)) i word =
         subst (λ (a : Act). IsWritten (written_with s.part.draft.written a (publishes a x)) i word) (sym is)
         (get_or-set_same s.part.draft.written i (Some word) None (omega arith)) in
-        subst (λ (l : List (Option ℕ)). IsWritten l i word) (sym written_is)
+        let work : IsOfCells act = subst IsOfCells (sym is) tt in
+        subst (λ (l : List (Option ℕ)). IsWritten l i word) (sym (written_is work))
         (unnamed_still idle (written_with s.part.draft.written act (publishes act x)) i word here
         (safe_test i word safe))

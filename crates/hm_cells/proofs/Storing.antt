@@ -114,7 +114,7 @@ module _ {U : Type 0} (lawful : U → PlainStore → Type 0) (allowed : U → Pl
           (Stores lawful allowed (move_by here (Builds (StoreOwn i word))) (word_at m.site.shape v i) word)
       own_ready i word low room named =
           ready lawful allowed seat grip shape number to used seated (Builds (StoreOwn i word))
-          (Stores lawful allowed (move_by here (Builds (StoreOwn i word))) (word_at m.site.shape v i) word)
+          (Stores lawful allowed (move_by here (Builds (StoreOwn i word))) (word_at m.site.shape v i) word) tt
           record {
             below = low;
             room = subst (λ (f : Facts U). HasRoom f.part) (sym is) room;
@@ -143,7 +143,7 @@ module _ {U : Type 0} (lawful : U → PlainStore → Type 0) (allowed : U → Pl
       first_ready room hand whole may =
           let whole' : IsWhole here.part = subst (λ (f : Facts U). IsWhole f.part) (sym is) whole in
           ready lawful allowed seat grip shape number to used seated (Builds (Publish (drafted here.part)))
-          (Stores lawful allowed (move_by here (Builds (Publish (drafted here.part)))) (word_at m.site.shape v 0) 0)
+          (Stores lawful allowed (move_by here (Builds (Publish (drafted here.part)))) (word_at m.site.shape v 0) 0) tt
           record {
             first = first_built here seated.sound whole'
                 (subst (λ (f : Facts U). HasRoom f.part) (sym is) room);
@@ -175,7 +175,7 @@ module _ {U : Type 0} (lawful : U → PlainStore → Type 0) (allowed : U → Pl
           × Takes lawful allowed o (Builds (StoreOwn i word)) x (facts_of seat' grip)
       own_now i word learns =
           moved lawful allowed seat seat' grip grip shape number to used seated o is
-          (λ f. Builds (StoreOwn i word)) x learns table slots None
+          (λ f. Builds (StoreOwn i word)) x tt learns table slots None
           (λ j. record grip { hand = sym (append-nil grip.hand) j })
           (ap (taken (Builds (StoreOwn i word)) x) (sym (learns here.part seated.own).what))
           used (omega arith)
@@ -188,7 +188,7 @@ module _ {U : Type 0} (lawful : U → PlainStore → Type 0) (allowed : U → Pl
           × Takes lawful allowed o (Builds (Publish (drafted o.part))) x (facts_of seat' grip')
       first_now took learns =
           moved lawful allowed seat seat' grip grip' shape number to used seated o is
-          (λ f. Builds (Publish (drafted f.part))) x learns table slots (Some v) took
+          (λ f. Builds (Publish (drafted f.part))) x tt learns table slots (Some v) took
           (ap (λ (w : Version). w ∷ []) (sym next_is)
           ∙ ap (taken (Builds (Publish (drafted here.part))) x) (sym (learns here.part seated.own).what))
           (used + 1) refl

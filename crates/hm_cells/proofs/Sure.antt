@@ -1,9 +1,36 @@
 -- In a good machine each caller is sure of itself, also after it lets go of a version.
-use Rattle.std.proofs.Common.{ℕ, List, Option, Contains, inl, inr, ⊎_elim, sym, subst, arith, ◌∙◌}
-use Rattle.hm_cells.proofs.Words.{Entry, PlainStore, Known, Site, Part, View, IsPublished, row_of, letting, without, MayLookInto, Core, Good, Carries, names_without, unnamed_was, unnamed_wide, without_held, lawful_before, published_once, rank_small, IsSure}
+use Rattle.std.proofs.Common.{◌+◌, ◌*◌, ◌/◌, ◌%◌, ◌^◌, ◌<◌, ◌≤◌, ℕ, ap, List, slice_index, Option, Contains, inl, inr, ⊎_elim, sym, subst, arith, ◌∙◌}
+use Rattle.hm_cells.specs.Facts.{most_cycles}
+use Rattle.hm_cells.proofs.Words.{version_count, done_limit, Entry, PlainStore, Known, Site, Part, View, IsPublished, row_of, letting, without, MayLookInto, Core, Good, Carries, names_without, unnamed_was, unnamed_wide, without_held, lawful_before, published_once, rank_small, IsSure}
+use Rattle.std.proofs.Math.Nat.{mul-le-mul_left}
 use Rattle.hm_moves.proofs.Heaps.{look_published}
 
+cycles_counted : (w : ℕ) → w % 2 ^ 32 / 4 < most_cycles
+cycles_counted w = omega arith
+
 module _ {U : Type 0} (lawful : U → PlainStore → Type 0) (allowed : U → PlainStore → Entry → Type 0) where
+  -- the stage's word counts all cycles that are done, so a caller has seen no more
+  cycles_few : (c : Core U) (id place : ℕ) (v : View U) (p : Part U) → Good lawful allowed p.site c
+      → Carries c.views id place v p → p.cycle.clock.stage.done < most_cycles
+  cycles_few c id place v p good at =
+      let old = good.collects in
+      let word = cycles_counted (slice_index c.heap.words 0) in
+      let done = old.heap.stage.done_is in
+      let behind = (old.rule.timely p.number).seen_done in
+      let seen = (old.parts id place v p at).clock.seen.done_is in omega arith
+
+  -- no more cycles are done than by the limit that a caller knows
+  done_low : (c : Core U) (id place : ℕ) (v : View U) (p : Part U) → Good lawful allowed p.site c
+      → Carries c.views id place v p → c.heap.places.done ≤ done_limit p
+  done_low c id place v p good at =
+      let mine = good.parts id place v p at in
+      let old = good.collects in
+      let low : p.number < old.state.shape.callers =
+      subst (λ (n : ℕ). p.number < n) (ap (λ z. z.callers) (sym old.heap.shape)) mine.number in
+      let behind = old.rule.freed.behind p.number low in
+      let done = old.heap.done in
+      let seen = (old.parts id place v p at).clock.seen.done_is in omega arith
+
   own_sure : (c : Core U) (id place : ℕ) (v : View U) (p : Part U) → Good lawful allowed p.site c
       → Carries c.views id place v p → IsSure lawful allowed v.seen p
   own_sure c id place v p good at =
@@ -18,10 +45,17 @@ module _ {U : Type 0} (lawful : U → PlainStore → Type 0) (allowed : U → Pl
             let b = heap.placed.filled (row_of p.site.shape p.number p.draft.region) in omega arith;
         wide = mine.draft.wide;
         named = λ j w n is. mine.draft.named j w n is;
+        cycles = cycles_few c id place v p good at;
         fit = λ k look. record {
           version = heap.placed.fits k (looks k look);
-          rank = rank_small p.site.shape c.heap.index c.heap.places 0 heap.placed heap.ranked k
-              (looks k look);
+          rank =
+              let low = done_low c id place v p good at in
+              let a = rank_small p.site.shape c.heap.index c.heap.places heap.placed heap.ranked k
+              (looks k look) in
+              let b : version_count p.site.shape * (c.heap.places.done + 1)
+              ≤ version_count p.site.shape * (done_limit p + 1) =
+              mul-le-mul_left (version_count p.site.shape) (omega (arith, low)) in
+              omega (arith, a, b);
           sized = heap.placed.sized k (looks k look);
         };
         once = λ k m a b. published_once c.heap.index k m (looks k a) (looks m b);
@@ -52,6 +86,7 @@ module _ {U : Type 0} (lawful : U → PlainStore → Type 0) (allowed : U → Pl
         wide = unnamed_wide o p.draft.written ∙ sure.wide;
         named = λ j w n is. names_without p.hands.held o p.draft.written j w is n
             (sure.named j w n (unnamed_was o p.draft.written j w is));
+        cycles = sure.cycles;
         fit = λ k look. sure.fit k (was k look);
         once = λ k m a b. sure.once k m (was k a) (was m b);
         calls = sure.calls;

@@ -219,7 +219,7 @@ module _ {U : Type 0} where
         good = good;
         safe = safe_good lawful allowed e.site ends.core good;
         reach = keeps_reach lawful allowed e.site ends.core good;
-        once = gives_once lawful allowed e.site ends.core good;
+        once = gives_once lawful allowed e.site ends.core good ends.freed;
         history = ends.history ∙ sym seen;
         stage = ends.stage_is ∙ sym stage;
       }

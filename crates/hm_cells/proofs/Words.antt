@@ -28,15 +28,17 @@ pub use Rattle.hm_model.specs.declared.object.Name.{Name}
 pub use Rattle.hm_model.specs.declared.object.Start.{Start}
 pub use Rattle.hm_model.specs.declared.root.Root.{Root}
 pub use Rattle.hm_moves.specs.Acts.{listed, publishes, word_of, becomes, field_look, finds, next_version, entry_of}
-pub use Rattle.hm_moves.specs.After.{view, seen_after, is_version, without, with_held, index_with, part_after, view_after, count_of, view_letting, letting, is_naming, unless_named, unnamed_from, unnamed, written_with}
-pub use Rattle.hm_moves.specs.Allowed.{HasRoom, IsWritten, HasHand, MayHold, MayLookInto, MayTake, MayLook, Enabled, IsLawfulMove, IsKnownField, IsKnownName, Turns, done_seen, Reads, IsFirst, Names, Spells, next_name, AreKnown}
+pub use Rattle.hm_moves.specs.Cycles.{is_version}
+pub use Rattle.hm_moves.specs.After.{view, seen_after, heap_after, without, with_held, index_with, part_after, view_after, count_of, view_letting, letting, is_naming, unless_named, unnamed_from, unnamed, written_with}
+pub use Rattle.hm_moves.specs.Allowed.{HasRoom, IsWritten, HasHand, MayHold, MayLookInto, MayTake, MayLook, Enabled, IsLawfulMove, IsKnownField, IsKnownName, Turns, done_limit, Reads, IsFirst, Names, Spells, next_name, AreKnown}
 pub use Rattle.hm_moves.specs.Chain.{Index, IsPublished, reference_at}
 pub use Rattle.hm_moves.specs.Fresh.{common_known, fresh_part, all_known, side_known, fresh_index, fresh_places, IsFreshCore}
 pub use Rattle.hm_moves.specs.Good.{Begins, AreApart, PartIsGood, Core, Good, Carries, applied, split, joined, joined_view, longer, spent_view, Depicts, released}
 pub use Rattle.hm_moves.specs.Places.{IsFit, Heap, row_of}
 pub use Rattle.hm_moves.specs.Told.{Found, IsLink, IsReference, LookFound}
-pub use Rattle.hm_moves.specs.declared.moving.Act.TheVariants.{Looks, Builds}
-pub use Rattle.hm_moves.specs.declared.moving.Build.TheVariants.{StoreOwn, Publish, LinkStore}
+pub use Rattle.hm_moves.specs.declared.moving.Act.{Act}
+pub use Rattle.hm_moves.specs.declared.moving.Act.TheVariants.{Looks, Builds, Ticks, Shifts}
+pub use Rattle.hm_moves.specs.declared.moving.Build.TheVariants.{StoreOwn, Publish, LinkStore, Shorten}
 pub use Rattle.hm_moves.specs.declared.moving.Look.{Look}
 pub use Rattle.hm_moves.specs.declared.moving.Look.TheVariants.{LoadStamp, LoadReference, LoadNumber, LoadLink}
 pub use Rattle.hm_moves.specs.declared.moving.Move.{Move}
@@ -45,7 +47,8 @@ pub use Rattle.hm_moves.specs.declared.part.Part.{Part}
 pub use Rattle.hm_moves.specs.declared.part.Site.{Site}
 pub use Rattle.hm_moves.specs.declared.part.View.{View}
 pub use Rattle.hm_moves.proofs.Enabling.{enabled_lawful}
-pub use Rattle.hm_moves.proofs.Fresh.{many, numbered, numbered_at, good_fresh}
+pub use Rattle.hm_moves.proofs.FreshMachine.{good_fresh}
+pub use Rattle.hm_moves.proofs.Fresh.{many, numbered, numbered_at}
 pub use Rattle.hm_moves.proofs.Held.{each_some, from_some, contains_behind, contains_first, contains_here, filter_still, held_stays, some_more, names_without, unnamed_was, unnamed_wide, without_held}
 pub use Rattle.hm_moves.proofs.Histories.{come_behind, nothing_more, others_only, begins_more, left_begins, lawful_before}
 pub use Rattle.hm_moves.proofs.Placed.{published_once, rank_small}
@@ -55,7 +58,7 @@ pub use Rattle.hm_cells.specs.Calls.{IsWhole, Takes, taken, Tells, version_in, I
 pub use Rattle.hm_cells.specs.Facts.{Facts, Fits, IsAtRest, IsSound, Made, place_name, sight_of, first_idle, is_kept, find_version, IsAmong, IsSure, IsLookable, known_at, names_at, lookable, nothing_known, with_root, without_first, IsHeldAt}
 pub use Rattle.hm_cells.specs.Grips.{Gripped, handing, site_of}
 pub use Rattle.hm_cells.specs.Making.{back, first_roots, fresh_pass, fresh_passes, front, newcomer, newcomers, first_used, first_view}
-pub use Rattle.hm_cells.specs.Shows.{IsSeated, caller_in, facts_of, knowledge, Learnt, Exchanges, IsReady, Learns, some_move, Loads, Shows, Looked, LookTells, Stores, looking, noted, met, spent, noting, first_letting}
+pub use Rattle.hm_cells.specs.Shows.{FreesNone, IsOfCells, IsSeated, caller_in, facts_of, knowledge, Learnt, Exchanges, IsReady, Learns, some_move, Loads, Shows, Looked, LookTells, Stores, looking, noted, met, spent, noting, first_letting}
 pub use Rattle.hm_cells.specs.declared.knowledge.Knowledge.{Knowledge}
 pub use Rattle.hm_cells.specs.declared.want.Want.{Want}
 pub use Rattle.hm_cells.specs.declared.want.Want.TheVariants.{Nothing, Fetch, Store, StoreIf}

@@ -1,5 +1,5 @@
 -- What each call asks of a pass, and what it leaves.
-use Rattle.std.specs.Prelude.{◌≡◌, ◌≢◌, ℕ, zero, suc, ◌+◌, ◌<◌, List, [], ◌∷◌, ◌++◌, Option, Some, None, IfSome, Result, Ok, Err, Contains, map, slice_index_or, unwrap_or}
+use Rattle.std.specs.Prelude.{◌≡◌, ◌≢◌, ℕ, zero, suc, ◌+◌, ◌<◌, false, List, [], ◌∷◌, ◌++◌, Option, Some, None, IfSome, Result, Ok, Err, Contains, map, slice_index_or, unwrap_or}
 use Rattle.atomic_table.specs.Seated.{TableId}
 use Rattle.hm_shape.specs.declared.version.Version.{Version}
 use Rattle.hm_shape.specs.Layout.{first_number, first_reference, link_at, stamp_at}
@@ -53,7 +53,7 @@ module _ {U : Type 0} where
   -- a pass moves by an act, and lets go of its first idle version
   abbrev pub move_by : Facts U → Act → Move
   move_by s act =
-      record { act = act; let_go = first_idle s.roots s.hand s.part.hands.held }
+      record { act = act; scan = false; let_go = first_idle s.roots s.hand s.part.hands.held }
 
   -- the pass after an act that found the word x, which names `found`, where others made entries
   -- meanwhile

@@ -19,12 +19,16 @@ use Rattle.hm_moves.specs.declared.part.Site.{Site}
 use Rattle.hm_moves.specs.declared.part.Part.{Part}
 use Rattle.hm_moves.specs.Places.{IsFit}
 use Rattle.hm_moves.specs.After.{is_naming}
-use Rattle.hm_moves.specs.Allowed.{IsWritten, Names, MayLookInto, done_seen}
+use Rattle.hm_moves.specs.Allowed.{IsWritten, Names, MayLookInto, done_limit}
 use Rattle.hm_moves.specs.Good.{AreApart, Begins}
 
 -- between two calls on objects a caller holds at most so many versions
 abbrev pub most_resting : ℕ
 most_resting = 400
+
+-- the stage's word counts fewer cycles than this
+abbrev pub most_cycles : ℕ
+most_cycles = 1073741824
 
 -- which cells, and what all their seats agree on
 pub record Made (U : Type 0) : Type 0 where
@@ -161,8 +165,10 @@ module _ {U : Type 0} where
       -- the words that it has written name versions that it holds
       pub named : (j w : ℕ) → is_naming j ≡ true → IsWritten p.draft.written j w
           → Names p.hands.held w
+      -- it has seen no more cycles done than the stage's word can count
+      pub cycles : p.cycle.clock.stage.done < most_cycles
       -- what it may look into is in the heap, and no two versions have one number
-      pub fit : (k : Known) → MayLookInto p k → IsFit p.site.shape (done_seen p) k
+      pub fit : (k : Known) → MayLookInto p k → IsFit p.site.shape (done_limit p) k
       pub once : (k m : Known) → MayLookInto p k → MayLookInto p m
           → m.version.0 ≡ k.version.0 → m ≡ k
       -- what was seen is a lawful history behind the opening, with the caller's entries

@@ -1,5 +1,5 @@
 -- The rule of the Table: its words and all views show a good state of the machine.
-use Rattle.std.specs.Prelude.{◌≡◌, ℕ, List, [], ◌∷◌, ◌++◌, ◌==◌, Option, None, IfSome, Contains, map, if◌then◌else◌, ◌+◌}
+use Rattle.std.specs.Prelude.{◌≡◌, ℕ, false, List, [], ◌∷◌, ◌++◌, ◌==◌, Option, None, IfSome, Contains, map, if◌then◌else◌, ◌+◌}
 use mathlib.Core.Option.{some}
 use lib.ListN.{get_elem?}
 use Rattle.atomic_table.specs.Table.{State}
@@ -16,13 +16,15 @@ use Rattle.hm_moves.specs.declared.part.Known.{Known}
 use Rattle.hm_moves.specs.declared.part.Site.{Site}
 use Rattle.hm_moves.specs.declared.part.Part.{Part}
 use Rattle.hm_moves.specs.declared.part.View.{View}
-use Rattle.hm_moves.specs.declared.moving.Act.TheVariants.{Builds}
+use Rattle.hm_moves.specs.declared.moving.Act.{Act}
+use Rattle.hm_moves.specs.declared.moving.Act.TheVariants.{Looks, Builds, Ticks, Shifts}
 use Rattle.hm_moves.specs.declared.moving.Build.TheVariants.{StoreOwn}
 use Rattle.hm_moves.specs.declared.moving.Move.{Move}
 use Rattle.hm_moves.specs.Acts.{word_of, becomes, entry_of, publishes, next_version}
 use Rattle.hm_moves.specs.After.{part_after, view, view_after, view_letting, letting}
 use Rattle.hm_moves.specs.Allowed.{Enabled}
 use Rattle.hm_moves.specs.Good.{Begins, Core, Good, joined_view, longer, spent_view, Depicts}
+use Rattle.hm_moves.specs.Places.{Heap}
 use Rattle.hm_moves.specs.Told.{Found}
 use Rattle.hm_moves.specs.Fresh.{fresh_part}
 use Rattle.hm_cells.specs.declared.knowledge.Knowledge.{Knowledge}
@@ -31,7 +33,18 @@ use Rattle.hm_cells.specs.Facts.{Facts, IsSure, IsSound}
 
 -- a move that stands for none until a call picks its own
 abbrev pub some_move : Move
-some_move = record { act = Builds (StoreOwn 0 0); let_go = None }
+some_move = record { act = Builds (StoreOwn 0 0); scan = false; let_go = None }
+
+-- no step of these cells looks at the stage or at roles: each is a look or a build
+abbrev pub IsOfCells : Act → Type 0
+IsOfCells (Looks l) = Unit {0}
+IsOfCells (Builds b) = Unit {0}
+IsOfCells (Ticks t) = ⊥
+IsOfCells (Shifts f) = ⊥
+
+-- so none of a heap's rows was freed
+abbrev pub FreesNone : Heap → Type 0
+FreesNone h = (row : ℕ) → h.places.freed row ≡ 0
 
 module _ {U : Type 0} where
   -- what a seat knows before its calls take a step, where it has met nobody
@@ -125,12 +138,13 @@ module _ {U : Type 0} where
     pub turns : (x : ℕ) → becomes m.act x ≡ (if x == 0 then link else x)
 
   module _ (lawful : U → PlainStore → Type 0) (allowed : U → PlainStore → Entry → Type 0) where
-    -- the words and the views depict a good machine, and what a seat had seen before a meeting
-    -- begins its history
+    -- the words and the views depict a good machine, of which no row was freed, and what a seat had
+    -- seen before a meeting begins its history
     pub record Shows {S : Type 0} (g : Site U) (s : State S (Knowledge U)) : Type 0 where
       pub core : Core U
       pub good : Good lawful allowed g core
       pub depicts : Depicts s.words (map (λ k. k.view) s.views) core
+      pub freed : FreesNone core.heap
       pub before : (j : ℕ) (k : Knowledge U) → get_elem? s.views j ≡ some k
           → Begins k.before core.heap.history
 
@@ -171,11 +185,13 @@ module _ {U : Type 0} where
     LookTells let_go place k l =
         (p : Part U) → get_elem? k.view.parts place ≡ some p → Looked let_go k place p l
 
-    -- a seat carries a caller at a place, which may take the move, and of which this holds
+    -- a seat carries a caller at a place, which may take the move, a look or a build, and of which
+    -- this holds
     pub record IsReady (k : Knowledge U) (m : Move) (place : ℕ) (P : Part U → Type 0) : Type 0 where
       pub caller : Part U
       pub carries : get_elem? k.view.parts place ≡ some caller
       pub enabled : Enabled lawful allowed k.view.seen caller m
+      pub works : IsOfCells m.act
       pub moves : P caller
 
     -- a move stores this number in this word, and tells the same whatever it found there

@@ -23,9 +23,9 @@
 //! | [`split`] | none | a note, with a copy of what was seen |
 //! | [`meet`] | none | the longer of two histories is seen |
 //!
-//! The rule of the Table is that its words and the views of all seats show a good state of the machine
-//! (`specs/Shows.antt`), so contents, chains and ranks are as the machine keeps them, and the history is
-//! lawful.
+//! The rule of the Table is that its words and the views of all seats show a good state of the machine, in which
+//! no region was freed (`specs/Shows.antt`), so contents, chains and ranks are as the machine keeps them, and the
+//! history is lawful.
 //! No running call has a history, a name, a rank or a list of held versions: contracts alone see them, in the
 //! views of seats. Nothing but [`Cells::make`] takes memory.
 //!

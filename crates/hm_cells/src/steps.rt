@@ -8,7 +8,7 @@ ghost use Rattle.hm_moves.specs.declared.moving.Build.TheVariants.{StoreOwn, Pub
 ghost use Rattle.hm_moves.specs.Places.{IsFit};
 ghost use Rattle.hm_moves.specs.After.{is_naming};
 ghost use Rattle.hm_moves.specs.Acts.{next_version, field_look};
-ghost use Rattle.hm_moves.specs.Allowed.{HasHand, HasRoom, Names, done_seen};
+ghost use Rattle.hm_moves.specs.Allowed.{HasHand, HasRoom, Names, done_limit};
 ghost use Rattle.hm_model.specs.Sight.{MayEnter};
 ghost use Rattle.hm_cells.specs.Facts.{Fits, IsLookable, IsSound, known_at, sight_of};
 ghost use Rattle.hm_cells.specs.Calls.{IsWhole, IsWholeCopy, MayPublish, MayStore, MayWant, Takes, drafted, linked, link_found, stored, turned, version_in, wanted};
@@ -37,7 +37,7 @@ pub fn load_field<U: Usage>(
     requires hand { HasHand pass.old.part }
     ensures took { Takes U.lawful U.allowed
         pass.old (Looks (field_look (known_at pass.old v) i)) result pass.new }
-    ensures fit { IsFit pass.old.part.site.shape (done_seen pass.old.part) (known_at pass.old v) }
+    ensures fit { IsFit pass.old.part.site.shape (done_limit pass.old.part) (known_at pass.old v) }
     ensures sound { IsSound U.lawful U.allowed pass.new }
 {
     let word = cells.load::<Brand>(&mut pass.seat, &pass.grip, v, i, &Want::Nothing);
@@ -78,7 +78,7 @@ pub fn load_link<U: Usage>(
     ensures took { Takes U.lawful U.allowed pass.old
         (Looks (LoadLink (known_at pass.old v) (wanted pass.old (known_at pass.old v) want)))
         (naming_word result) pass.new }
-    ensures fit { IsFit pass.old.part.site.shape (done_seen pass.old.part) (known_at pass.old v) }
+    ensures fit { IsFit pass.old.part.site.shape (done_limit pass.old.part) (known_at pass.old v) }
     ensures sound { IsSound U.lawful U.allowed pass.new }
 {
     // The load that finds no link makes the entry: one step later another version may hang there.
@@ -149,7 +149,7 @@ pub fn link_store<U: Usage>(
         (Some (stored pass.old (known_at pass.old v) want))))
         (link_found result) pass.new }
     ensures version { IfOk result (λ next. next ≡ next_version pass.old.part) }
-    ensures fit { IsFit pass.old.part.site.shape (done_seen pass.old.part) (known_at pass.old v) }
+    ensures fit { IsFit pass.old.part.site.shape (done_limit pass.old.part) (known_at pass.old v) }
     ensures sound { IsSound U.lawful U.allowed pass.new }
 {
     let next = pass.next_version();

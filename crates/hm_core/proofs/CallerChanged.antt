@@ -1,6 +1,10 @@
 -- The seats after the hand of one caller changed, and an entry of it was made: all else is as it was.
 use Rattle.std.proofs.Common.{◌≡◌, ◌≢◌, ◌<◌, ◌≤◌, ℕ, zero, suc, List, [], ◌∷◌, ◌++◌, length, map, take, set, Option, Some, refl, sym, ap, ◌∙◌, arith, get_or-set_other, get_or-set_same}
-use Rattle.std.specs.Prelude.{slice_get, slice_index_or, slice_set}
+use Rattle.std.specs.Prelude.{slice_get, slice_index_or, slice_set, ◌/◌, ◌%◌}
+use Rattle.hm_shape.specs.declared.roles.Roles.{Roles}
+use Rattle.hm_shape.specs.declared.shape.Shape.{Shape}
+use Rattle.hm_moves.specs.Cycles.{role_at}
+use Rattle.hm_core.specs.Running.{role_in}
 use Rattle.hm_core.proofs.Words.{fun_ext, take-append-le, get_or_from_slice_get, ℕ_discrete, dite, Entry, AnyUsage, calls_of, Part, listed, view, Carries, IsBy, HandState, no_hand, SeatState, no_seat, IsAwake, Moment, core_of, hand_at, own_part, own_view, seat_at, seat_view, site_of, IsSound, calls_beside}
 use Rattle.hm_core.proofs.Moments.{Awakes, seated_awake, map_at}
 
@@ -21,15 +25,21 @@ map_set_agree f g (x ∷ xs) (suc q) y b e h =
     let first = h 0 x refl (λ z. omega arith) in
     let rest = map_set_agree f g xs q y b e (λ j a is ne. h (suc j) a is (λ z. ne (omega arith))) in cc
 
-abbrev to_of : List HandState → ℕ → ℕ
-to_of hands r = (slice_index_or hands r no_hand).draft.region
+abbrev roles_of : List HandState → ℕ → Roles
+roles_of hands r = (slice_index_or hands r no_hand).cycle.ties.roles
 
--- each caller writes into the region where it did
-pub to_same : (hands : List HandState) (q : ℕ) (h : HandState) → q < length hands
-    → h.draft.region ≡ to_of hands q → to_of (set hands q h) ≡ to_of hands
-to_same hands q h low same = fun_ext (λ r. dite (ℕ_discrete r q)
+-- each caller's regions have the roles that they had
+each_same : (hands : List HandState) (q : ℕ) (h : HandState) → q < length hands
+    → h.cycle.ties.roles ≡ roles_of hands q → (r : ℕ) → roles_of (set hands q h) r ≡ roles_of hands r
+each_same hands q h low same r = dite (ℕ_discrete r q)
     (λ e. let there = get_or-set_same hands q h no_hand low in cc)
-    (λ ne. let there = get_or-set_other hands q r h no_hand ne in cc))
+    (λ ne. let there = get_or-set_other hands q r h no_hand ne in cc)
+
+-- and so each row
+pub roles_same : (s : Shape) (hands : List HandState) (q : ℕ) (h : HandState) → q < length hands
+    → h.cycle.ties.roles ≡ roles_of hands q → role_in s (set hands q h) ≡ role_in s hands
+roles_same s hands q h low same = fun_ext (λ row.
+    ap (λ (z : Roles). role_at z (row % s.regions)) (each_same hands q h low same (row / s.regions)))
 
 module _ (m : Moment) (sound : IsSound m) (q : ℕ)
     (awake : IsAwake (core_of m) q (own_view m q) (own_part m q)) where
@@ -60,7 +70,7 @@ module _ (m : Moment) (sound : IsSound m) (q : ℕ)
         seat = map_at (seat_view m) m.seats j s there;
         place = map_at (own_part m) s.parts k r here;
       } in
-      sound.good.apart j k q 0 (seat_view m s) (own_view m q) (own_part m r) (own_part m q) c awake.carries
+      (sound.good tt).apart j k q 0 (seat_view m s) (own_view m q) (own_part m r) (own_part m q) c awake.carries
       same
 
   module _ (n : Moment) (o : Option Entry) (by : IsBy q o) (site : site_of n ≡ site_of m)

@@ -3,6 +3,7 @@ use Rattle.std.proofs.Common.{◌≡◌, ◌↔◌, ◌<◌, ◌+◌, ◌-◌, �
 use Rattle.hm_core.proofs.Words.{each_some, common_steps, option_eq, Version, first_number, first_reference, Name, Contents, Stored, Changed, Entry, Create, Fetch, Store, StoreIf, AnyUsage, Refs, IsThere, is_same, new_contents, store_of, same_names, is_same-self, Known, Part, LoadStamp, LoadReference, LoadNumber, Act, Looks, Builds, next_version, next_name, MayLookInto, HasRoom, Reads, Turns, MayTake, IsBuilt, IsWritten, StepKind, act_of, IsAwake, IsLookable, Fits, Moment, core_of, index_of, own_part, own_view, IsSound, option_map, link_at, stamp_at, field_look, MayLook, AreKnown, later_contents, HoldsWhatItNeeds, HasPlace, IsPlain}
 use Rattle.std.proofs.lemmas.Bool.{ltb-true, and_from, and_parts}
 use lib.Pointwise.{pointwise}
+use Rattle.hm_moves.specs.Allowed.{HoldsClean, IsLaterThan}
 use Rattle.hm_moves.specs.declared.moving.Look.TheVariants as look
 use Rattle.hm_moves.specs.declared.moving.Build.TheVariants as build
 use Rattle.hm_core.specs.declared.step.StepKind.TheVariants.{LoadField, LoadLink, StoreOwn, Publish, LinkStore}
@@ -57,6 +58,12 @@ module _ (m : Moment) (q : ℕ) where
 
   abbrev Any : Entry → Type 0
   Any e = Unit {0}
+
+  abbrev Clean : Type 0
+  Clean = HoldsClean m.words p
+
+  abbrev Later : Known → ℕ → Known → Type 0
+  Later = IsLaterThan m.shape (core_of m).heap
 
   -- the first version that a Create makes, and the later one that holds these contents
   abbrev pub first_made : Name → Refs → List ℕ → Known
@@ -143,11 +150,11 @@ module _ (m : Moment) (q : ℕ) where
         record { look = looked v k is seen; word = tt; reads = h; may = each_some Any want (λ e is. tt) },
       ),
       λ (a, e, may). let both = rw is at e in let same : Looks (look.LoadLink k want) ≡ a = cc in
-          (subst (MayTake Known' Any p) (sym same) may).reads,
+          (subst (MayTake Known' Any Clean Later p) (sym same) may).reads,
     )
 
     field_may : (k : Known) (i : ℕ) (s t : Bool) → nat_lt i first_number ≡ t → MayLookInto p k → 0 < i → i < 16
-        → MayLook Known' Any p (if s then LoadStamp k else if t then LoadReference k (i - first_reference)
+        → MayLook Known' Any Clean Later p (if s then LoadStamp k else if t then LoadReference k (i - first_reference)
         else LoadNumber k (i - first_number))
     field_may k i true t e look positive below = record { look = look; word = tt; reads = tt; may = tt }
     field_may k i false true e look positive below =
@@ -178,6 +185,7 @@ module _ (m : Moment) (q : ℕ) where
       record {
         look = looked v k is look;
         later = record { room = room; version = refl; name = refl; rank = refl; link = link; built = built };
+        copies = tt;
         turns = turns;
         may = tt;
       },

@@ -1,8 +1,13 @@
 -- The moment that a fresh machine tells: it is fresh, and sound.
-use Rattle.std.proofs.Common.{◌≡◌, ◌≢◌, ◌<◌, ◌≤◌, ◌-◌, ℕ, zero, suc, ne_eqb, List, [], ◌∷◌, ◌++◌, length, map, get_or, replicate, Option, Some, None, refl, sym, ap, ◌∙◌, subst, arith}
+use Rattle.std.proofs.Common.{◌≡◌, ◌≢◌, ◌<◌, ◌≤◌, ◌-◌, ◌/◌, ◌%◌, ◌==◌, ℕ, zero, suc, ne_eqb, false, if◌then◌else◌, List, [], ◌∷◌, ◌++◌, length, map, get_or, replicate, Option, Some, None, refl, sym, ap, ◌∙◌, subst, arith}
 use Rattle.std.specs.Prelude.{slice_get}
 use Rattle.hm_core.proofs.Words.{fun_ext, length-append, length-map, length-replicate, length-set, map-append, get_or-set_same, get_or-set_other, take_all, ℕ_discrete, dite, some, get_elem?, Shape, version_count, Start, Entry, AnyUsage, opening_of, Known, Part, View, Index, IsPublished, link_of, Carries, common_known, all_known, many, Row, SeatState, no_seat, HandState, fresh_hand, no_hand, Moment, any_store, any_entry, core_of, hand_at, index_of, no_row, own_part, places_of, row_at, seat_view, site_of, IsSound, IsSoundHand, creates_of, first_seats, get_or-replicate, starting_count, AreTrue, fresh_index, fresh_part, fresh_places, fresh_used, IsFreshHeap, IsFreshCore, numbered, numbered_at, used_first, used_other, good_fresh, first_hands, first_rows}
 use Rattle.std.proofs.lemmas.Nat.{mul-lt}
+use Rattle.hm_shape.specs.declared.roles.Role.{Role}
+use Rattle.hm_shape.specs.declared.roles.Role.TheVariants.{Free, To}
+use Rattle.hm_shape.specs.declared.roles.Roles.{Roles}
+use Rattle.hm_moves.specs.Cycles.{role_at}
+use Rattle.hm_moves.specs.Fresh.{fresh_roles}
 use Rattle.hm_moves.specs.Places.{row_count}
 use Rattle.hm_moves.specs.FirstWords.{AreFirst}
 use Rattle.hm_moves.proofs.Places.{at_end, at_below}
@@ -17,6 +22,7 @@ first_moment s start words = record {
   words = words;
   known = map Some (all_known start) ++ replicate (version_count s - length (all_known start)) None;
   rows = first_rows s (length (all_known start));
+  done = 0;
   history = opening_of start;
   hands = first_hands s (common_known start) (all_known start);
   seats = first_seats (length (opening_of start)) s.callers;
@@ -70,11 +76,18 @@ index_get [] n v = repeated (λ (o : Option Known). o) n v None None refl
 index_get (x ∷ xs) n zero = refl
 index_get (x ∷ xs) n (suc v) = index_get xs n v
 
--- a fresh caller writes into its first region
-first_to : (s : Shape) (common : Known) (own : List Known) (q : ℕ)
-    → (get_or (first_hands s common own) q no_hand).draft.region ≡ 0
-first_to s common own zero = refl
-first_to s common own (suc q) = repeated (λ (h : HandState). h.draft.region) (s.callers - 1) q _ no_hand refl
+-- of a fresh caller the first region is To, and every other Free
+first_role : (g : ℕ) → role_at fresh_roles g ≡ (if g == 0 then To else Free)
+first_role zero = refl
+first_role (suc g) =
+    let other : role_at fresh_roles (suc g) ≡ Free = repeated (λ (r : Role). r) 7 g Free Free refl in
+    rw (ne_eqb (suc g) 0 (λ z. omega arith)) other
+
+-- and so where no caller is
+roles_first : (s : Shape) (common : Known) (own : List Known) (q : ℕ)
+    → (get_or (first_hands s common own) q no_hand).cycle.ties.roles ≡ fresh_roles
+roles_first s common own zero = refl
+roles_first s common own (suc q) = repeated (λ (h : HandState). h.cycle.ties.roles) (s.callers - 1) q _ no_hand refl
 
 module _ (s : Shape) (start : Start) (words : List ℕ) (first : AreFirst s start words)
     (room : starting_count start ≤ s.versions) where
@@ -93,7 +106,7 @@ module _ (s : Shape) (start : Start) (words : List ℕ) (first : AreFirst s star
       let more = versions_some (row_count s) s.versions some_rows in omega arith
 
   abbrev full : Row
-  full = record { used = length (all_known start); made = length (all_known start); freed = 0 }
+  full = record { used = length (all_known start); made = length (all_known start); freed = 0; dead = false }
 
   row_first : row_at m.rows 0 ≡ full
   row_first =
@@ -116,12 +129,20 @@ module _ (s : Shape) (start : Start) (words : List ℕ) (first : AreFirst s star
   never_freed row = dite (ℕ_discrete row 0)
       (λ e. rw e (ap (λ (r : Row). r.freed) row_first)) (λ ne. ap (λ (r : Row). r.freed) (row_other row ne))
 
-  places_are : places_of m ≡ fresh_places start
+  never_dead : (row : ℕ) → (row_at m.rows row).dead ≡ false
+  never_dead row = dite (ℕ_discrete row 0)
+      (λ e. rw e (ap (λ (r : Row). r.dead) row_first)) (λ ne. ap (λ (r : Row). r.dead) (row_other row ne))
+
+  places_are : places_of m ≡ fresh_places s start
   places_are = λ i. record {
     used = λ row. counted (λ r. r.used) refl refl row i;
     made = λ row. counted (λ r. r.made) refl refl row i;
     freed = λ row. never_freed row i;
-    to = λ q. first_to s (common_known start) (all_known start) q i;
+    role = λ row. (ap (λ (r : Roles). role_at r (row % s.regions))
+        (roles_first s (common_known start) (all_known start) (row / s.regions))
+        ∙ first_role (row % s.regions)) i;
+    dead = λ row. never_dead row i;
+    done = 0;
   }
 
   fresh_heap : IsFreshHeap (site_of m) (core_of m).heap
@@ -129,14 +150,14 @@ module _ (s : Shape) (start : Start) (words : List ℕ) (first : AreFirst s star
     wide = first.wide;
     index = index_is;
     places = places_are;
-    head = rw (fun_ext (first_to s (common_known start) (all_known start))) first.head;
+    head = first.head;
     history = refl;
     contents = subst (AreTrue s words) (sym index_is) first.contents;
     links = subst (λ (x : Index). (k : Known) → IsPublished x k → link_of s words k ≡ 0) (sym index_is) first.links;
   }
 
-  hand_own : (q : ℕ) → suc q < s.callers → hand_at m (suc q) ≡ fresh_hand s.versions (common_known start) []
-  hand_own q low = get_or-replicate (s.callers - 1) q (fresh_hand s.versions (common_known start) []) no_hand
+  hand_own : (q : ℕ) → suc q < s.callers → hand_at m (suc q) ≡ fresh_hand s (common_known start) []
+  hand_own q low = get_or-replicate (s.callers - 1) q (fresh_hand s (common_known start) []) no_hand
       (omega arith)
 
   part_is : (q : ℕ) → q < s.callers → own_part m q ≡ fresh_part (site_of m) q
@@ -145,9 +166,14 @@ module _ (s : Shape) (start : Start) (words : List ℕ) (first : AreFirst s star
   }
   part_is (suc q) low =
       let is : own_part m (suc q) ≡ record (own_part m (suc q)) {
-        draft = (fresh_hand s.versions (common_known start) []).draft;
-        hands = (fresh_hand s.versions (common_known start) []).hands;
-      } = λ i. record (own_part m (suc q)) { draft = (hand_own q low i).draft; hands = (hand_own q low i).hands } in
+        draft = (fresh_hand s (common_known start) []).draft;
+        hands = (fresh_hand s (common_known start) []).hands;
+        cycle = (fresh_hand s (common_known start) []).cycle;
+      } = λ i. record (own_part m (suc q)) {
+        draft = (hand_own q low i).draft;
+        hands = (hand_own q low i).hands;
+        cycle = (hand_own q low i).cycle;
+      } in
       is ∙ rw (ne_eqb (suc q) 0 (λ z. omega arith)) refl
 
   -- a view is of one caller, with its fresh part
@@ -176,13 +202,14 @@ module _ (s : Shape) (start : Start) (words : List ℕ) (first : AreFirst s star
   }
 
   hands_sound : (q : ℕ) → q < s.callers → IsSoundHand m (hand_at m q)
-  hands_sound zero low = record { region = omega (arith, s.regions_fit); room = refl; own = refl }
+  hands_sound zero low = record { region = omega (arith, s.regions_fit); room = refl }
   hands_sound (suc q) low = subst (IsSoundHand m) (sym (hand_own q low))
-      (record { region = omega (arith, s.regions_fit); room = refl; own = refl })
+      (record { region = omega (arith, s.regions_fit); room = refl })
 
   pub first_sound : IsSound m
   first_sound = record {
-    good = good_fresh any_store any_entry (site_of m) first.sized room (core_of m) first_fresh tt;
+    good = λ u. good_fresh any_store any_entry (site_of m) first.sized room (core_of m) first_fresh tt;
+    wide = first_fresh.heap.wide;
     known_size =
         let a = length-append (map Some (all_known start))
         (replicate {A = Option Known} (version_count s - length (all_known start)) None) in
@@ -192,7 +219,7 @@ module _ (s : Shape) (start : Start) (words : List ℕ) (first : AreFirst s star
     rows_size = length-set (replicate {A = Row} (row_count s) no_row) 0 full ∙ length-replicate (row_count s) no_row;
     hands_size =
         let some = s.callers_fit in
-        let long = length-replicate (s.callers - 1) (fresh_hand s.versions (common_known start) []) in omega arith;
+        let long = length-replicate (s.callers - 1) (fresh_hand s (common_known start) []) in omega arith;
     seats_size = let long = seats_long (length (opening_of start)) s.callers in omega arith;
     numbered = λ v k is.
         let here = sym (ap (λ (f : Index). f v) index_is) ∙ is in
@@ -216,6 +243,7 @@ pub moment_is : (s : Shape) (start : Start) (firsts : List Known) (common : Know
       words = words;
       known = known;
       rows = rows;
+      done = 0;
       history = history;
       hands = hands;
       seats = seats;

@@ -1,10 +1,14 @@
 -- An accepted step that moves a word is a lawful move, and every step that is taken leads on.
 use Rattle.std.proofs.Common.{◌≡◌, ◌≢◌, ◌<◌, ◌+◌, ℕ, length, Option, Some, None, IfSome, Contains, refl, sym, ◌∙◌, subst, arith, inl}
-use Rattle.hm_core.proofs.Words.{slice_get_within, Version, AnyUsage, IsThere, Stands, store_of, Known, Part, Act, Looks, Builds, Index, HasHand, MayHold, MayTake, IsLawfulMove, Core, Leads, here, let_go, cut, met, Step, StepKind, Note, act_of, IsAwake, MayMeet, Fits, Moment, any_store, any_entry, core_of, index_of, own_part, own_view, IsSound, moved, Caller, seat_of, IsAct, IsHeld, HasSeat, MayHoldMore, IsTaken}
+use Rattle.hm_core.proofs.Words.{each_some, field_look, next_version, option_map, slice_get_within, Version, AnyUsage, IsThere, Stands, store_of, Known, Part, Act, Looks, Builds, Index, HasHand, MayHold, MayTake, IsLawfulMove, Core, Leads, here, let_go, cut, met, Step, StepKind, Note, act_of, IsAwake, MayMeet, Fits, Moment, any_store, any_entry, core_of, index_of, own_part, own_view, IsSound, moved, Caller, seat_of, IsAct, IsHeld, HasSeat, MayHoldMore, IsTaken}
 use Rattle.hm_moves.specs.declared.moving.Look.TheVariants as look
 use Rattle.hm_moves.specs.declared.moving.Build.TheVariants as build
-use Rattle.hm_moves.proofs.Enabling.{take_wider}
-use Rattle.hm_core.specs.declared.step.StepKind.TheVariants.{StoreOwn, Publish, Split, Meet}
+use Rattle.std.specs.Prelude.{option_and_then}
+use Rattle.hm_moves.specs.Acts.{want_of}
+use Rattle.hm_moves.specs.Allowed.{HoldsClean, IsLaterThan}
+use Rattle.hm_moves.specs.declared.moving.Act.TheVariants.{Ticks, Shifts}
+use Rattle.hm_core.specs.Stepping.{first_known, later_known, scan_of, IsWork}
+use Rattle.hm_core.specs.declared.step.StepKind.TheVariants.{LoadField, LoadLink, StoreOwn, Publish, LinkStore, Split, Meet}
 use Rattle.hm_core.specs.declared.step.StepRefused.TheVariants as refused
 use Rattle.hm_core.specs.declared.step.Other.{Other}
 use Rattle.hm_core.specs.Taking.{let_go_of, IsAdmitted, Becomes, Takes}
@@ -28,7 +32,10 @@ module _ {U : Type 0} (p : Part U) where
   hand_serves (Looks (look.LoadStamp at)) h = tt
   hand_serves (Builds (build.StoreOwn i word)) h = tt
   hand_serves (Looks l) h = h
+  hand_serves (Builds (build.Shorten at i target)) h = tt
   hand_serves (Builds b) h = h
+  hand_serves (Ticks t) h = tt
+  hand_serves (Shifts f) h = tt
 
   may_hold : (ix : Index) (kind : StepKind) (a : Act) → act_of ix p kind ≡ Some a → MayHoldMore p kind
       → MayHold p a
@@ -81,20 +88,86 @@ step_meets m sound step o is ok =
     meets_other m sound step.caller first.0 o
     (subst (λ (k : StepKind). HasSeat (core_of m) m.shape.callers step.caller k) is first.1)
 
+-- an act is work on versions
+pub act_work : {U : Type 0} (r : Part U) (ix : Index) (kind : StepKind) (a : Act) → act_of ix r kind ≡ Some a
+    → IsWork a
+act_work r ix (LoadField v i scan) a is = go (ix v.0) is
+  where
+    go : (o : Option Known) → option_map (λ at. Looks (field_look at i)) o ≡ Some a → IsWork a
+    go None e = absurd (cc)
+    go (Some at) e = let same : Looks (field_look at i) ≡ a = cc in subst IsWork same tt
+act_work r ix (LoadLink v entry scan) a is = go (ix v.0) is
+  where
+    go : (o : Option Known) → option_map (λ at. Looks (look.LoadLink at entry)) o ≡ Some a → IsWork a
+    go None e = absurd (cc)
+    go (Some at) e = let same : Looks (look.LoadLink at entry) ≡ a = cc in subst IsWork same tt
+act_work r ix (StoreOwn i word) a is = let same : Builds (build.StoreOwn i word) ≡ a = cc in subst IsWork same tt
+act_work r ix (Publish entry) a is = go (first_known (next_version r) entry) is
+  where
+    go : (o : Option Known) → option_map (λ fresh. Builds (build.Publish fresh)) o ≡ Some a → IsWork a
+    go None e = absurd (cc)
+    go (Some k) e = let same : Builds (build.Publish k) ≡ a = cc in subst IsWork same tt
+act_work r ix (LinkStore v entry) a is = go (ix v.0) is
+  where
+    then : (at : Known) (o : Option Known)
+        → option_map (λ fresh. Builds (build.LinkStore at fresh (Some entry))) o ≡ Some a → IsWork a
+    then at None e = absurd (cc)
+    then at (Some k) e = let same : Builds (build.LinkStore at k (Some entry)) ≡ a = cc in subst IsWork same tt
+
+    go : (o : Option Known)
+        → option_and_then (λ at. option_map (λ fresh. Builds (build.LinkStore at fresh (Some entry)))
+        (later_known (next_version r) at entry)) o ≡ Some a → IsWork a
+    go None e = absurd (cc)
+    go (Some at) e = then at (later_known (next_version r) at entry) e
+act_work r ix Split a is = absurd (cc)
+act_work r ix (Meet other) a is = absurd (cc)
+
+-- every entry is allowed
+take_any : (m : Moment) (p : Part AnyUsage) (a : Act) → IsWork a
+    → MayTake (IsThere (store_of m.history)) (λ e. Unit {0}) (HoldsClean m.words p)
+    (IsLaterThan m.shape (core_of m).heap) p a
+    → MayTake (IsThere (store_of m.history))
+    (λ e. Stands (store_of m.history) e → any_entry record {} (store_of m.history) e) (HoldsClean m.words p)
+    (IsLaterThan m.shape (core_of m).heap) p a
+take_any m p (Looks l) w h = record {
+  look = h.look;
+  word = h.word;
+  reads = h.reads;
+  may = each_some (λ e. Stands (store_of m.history) e → Unit {0}) (want_of l) (λ e is stands. tt);
+}
+take_any m p (Builds (build.StoreOwn i word)) w h = h
+take_any m p (Builds (build.Publish k)) w h = record { first = h.first; may = λ stands. tt }
+take_any m p (Builds (build.LinkStore at k o)) w h = record {
+  look = h.look;
+  later = h.later;
+  copies = h.copies;
+  turns = h.turns;
+  may = each_some (λ e. Stands (store_of m.history) e → Unit {0}) o (λ e is stands. tt);
+}
+take_any m p (Builds (build.Shorten at i target)) w h = record {
+  own = h.own;
+  word = h.word;
+  held = h.held;
+  kept = h.kept;
+  later = h.later;
+}
+take_any m p (Ticks t) w h = absurd w
+take_any m p (Shifts f) w h = absurd w
+
 -- an admitted step that is an act is a lawful move
 pub step_may : (m : Moment) (sound : IsSound m) (step : Step) (a : Act) (o : Option Known)
     → act_of (index_of m.known) (own_part m step.caller) step.kind ≡ Some a → o ≡ let_go_of m step.let_go
     → IsAdmitted m step
-    → IsLawfulMove any_store any_entry m.history (own_part m step.caller) record { act = a; let_go = o }
+    → IsLawfulMove any_store any_entry (core_of m).heap (own_part m step.caller)
+    record { act = a; scan = scan_of step.kind; let_go = o }
 step_may m sound step a o is same ok =
     let p = own_part m step.caller in
     let t = taken p (core_of m) step.kind a is (ok refused.Change (omega arith)) in
     let one : t.0 ≡ a = let there = t.1 in cc in
     record {
-      act = take_wider (IsThere (store_of m.history)) (IsThere (store_of m.history)) (λ n h. h) p
-          (λ e. Unit {0})
-          (λ e. Stands (store_of m.history) e → any_entry p.site.usage (store_of m.history) e) (λ e u s. tt)
-          a (subst (MayTake (IsThere (store_of m.history)) (λ e. Unit {0}) p) one t.2);
+      act = take_any m p a (act_work p (index_of m.known) step.kind a is)
+          (subst (MayTake (IsThere (store_of m.history)) (λ e. Unit {0}) (HoldsClean m.words p)
+          (IsLaterThan m.shape (core_of m).heap) p) one t.2);
       holds = may_hold p (index_of m.known) step.kind a is (ok refused.Holds (omega arith));
       let_go = rw same (let_held m sound step.caller (ok refused.Caller (omega arith)).0 step.let_go
           (ok refused.Held (omega arith)).1);
@@ -118,5 +191,5 @@ takes_leads m sound n step word h =
         (meet_leads m step.caller (let_go_of m step.let_go) sound awake (seat_of m.shape.callers other) x.0 x.1)
     go kind seat t = subst (LeadsAny (core_of m)) (sym t.now)
         (moved (core_of m) step.caller 0 (own_view m step.caller) (own_part m step.caller)
-        record { act = t.act; let_go = let_go_of m step.let_go } here awake.carries
+        record { act = t.act; scan = scan_of step.kind; let_go = let_go_of m step.let_go } here awake.carries
         (step_may m sound step t.act (let_go_of m step.let_go) t.is refl h.admitted))

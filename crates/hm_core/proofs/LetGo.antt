@@ -1,13 +1,13 @@
 -- The plain data after a caller let go of a version, and its seat was then split or joined with another.
 use Rattle.std.proofs.Common.{◌≡◌, ◌≢◌, ◌<◌, ◌≤◌, ℕ, zero, suc, true, false, List, [], ◌∷◌, ◌++◌, length, take, set, get_or, nat_lt, if◌then◌else◌, Option, None, refl, sym, ap, ◌∙◌, subst, arith, append-nil, length-set, length-append, get_or-set_other, get_or-set_same}
 use Rattle.std.specs.Prelude.{slice_set}
-use Rattle.hm_core.proofs.Words.{set-get_or, map-append, map-set, slice_get-get_or, ℕ_discrete, dite, some, some-injective, get_elem?, Entry, AnyUsage, Known, Part, view, Core, Good, Leads, here, let_go, cut, met, HandState, no_hand, SeatState, no_seat, IsAwake, Moment, any_store, any_entry, core_of, hand_at, own_part, own_view, seat_at, seat_view, site_of, IsSound, IsSoundHand, length-take-le, letting, longer, hand_letting}
+use Rattle.hm_core.proofs.Words.{Shape, set-get_or, map-append, map-set, slice_get-get_or, ℕ_discrete, dite, some, some-injective, get_elem?, Entry, AnyUsage, Known, Part, view, Core, Good, Leads, here, let_go, cut, met, HandState, no_hand, SeatState, no_seat, IsAwake, Moment, any_store, any_entry, core_of, hand_at, own_part, own_view, seat_at, seat_view, site_of, IsSound, IsSoundHand, length-take-le, letting, longer, hand_letting}
 use Rattle.hm_moves.proofs.Places.{set_here, set_else}
 use Rattle.hm_moves.proofs.Safe.{good_always}
 use Rattle.hm_core.specs.Taking.{core_letting, seat_letting, split_off, joined_to}
 use Rattle.hm_core.proofs.Moments.{awake_below, view_at}
 use Rattle.hm_core.proofs.FieldsRead.{hand_read, seat_read, other_read}
-use Rattle.hm_core.proofs.CallerChanged.{other_view, own_parts, to_same, views_set}
+use Rattle.hm_core.proofs.CallerChanged.{other_view, own_parts, roles_same, views_set}
 use Rattle.hm_core.proofs.AfterMove.{any_laws, HasSeen, seen_set}
 
 -- no seat has seen more, with another one
@@ -33,7 +33,7 @@ longer_is h a b la lb =
 module _ (m : Moment) (q : ℕ) (o : Option Known) where
   -- the plain data after the caller let go
   abbrev letting_go : Moment
-  letting_go = record m { hands = slice_set m.hands q (hand_letting (hand_at m q) o) }
+  letting_go = record m { hands = slice_set m.hands q (hand_letting m.shape q (hand_at m q) o) }
 
   -- and with a note behind all seats
   abbrev pub noted : Moment
@@ -56,11 +56,11 @@ module _ (m : Moment) (q : ℕ) (o : Option Known) where
     below : q < length m.hands
     below = omega (arith, sound.hands_size, low)
 
-    hand_is : hand_at letting_go q ≡ hand_letting (hand_at m q) o
-    hand_is = get_or-set_same m.hands q (hand_letting (hand_at m q) o) no_hand below
+    hand_is : hand_at letting_go q ≡ hand_letting m.shape q (hand_at m q) o
+    hand_is = get_or-set_same m.hands q (hand_letting m.shape q (hand_at m q) o) no_hand below
 
     hand_else : (r : ℕ) → r ≢ q → hand_at letting_go r ≡ hand_at m r
-    hand_else r ne = get_or-set_other m.hands q r (hand_letting (hand_at m q) o) no_hand ne
+    hand_else r ne = get_or-set_other m.hands q r (hand_letting m.shape q (hand_at m q) o) no_hand ne
 
     part_is : own_part letting_go q ≡ letting (own_part m q) o
     part_is = let h = hand_is in cc
@@ -76,7 +76,7 @@ module _ (m : Moment) (q : ℕ) (o : Option Known) where
 
     core_is : core_of letting_go ≡ core_letting m q o
     core_is =
-        let to = to_same m.hands q (hand_letting (hand_at m q) o) below refl in
+        let roles = roles_same m.shape m.hands q (hand_letting m.shape q (hand_at m q) o) below refl in
         let same : set m.seats q (seat_at m q) ≡ m.seats = set-get_or m.seats q no_seat in
         let views = views_set m sound q awake letting_go None tt refl (sym (append-nil m.history)) hand_else
         (letting (own_part m q) o) part_is (seat_at m q) refl in cc
@@ -136,8 +136,8 @@ module _ (m : Moment) (q : ℕ) (o : Option Known) where
     hands_sound seats r small =
         let old = sound.hands r small in dite (ℕ_discrete r q)
         (λ same. rw (same, hand_is)
-        (let old = sound.hands q low in record { region = old.region; room = old.room; own = old.own }))
-        (λ ne. rw (hand_else r ne) record { region = old.region; room = old.room; own = old.own })
+        (let old = sound.hands q low in record { region = old.region; room = old.room }))
+        (λ ne. rw (hand_else r ne) record { region = old.region; room = old.room })
 
     -- and are sound with such seats, where the state is good
     sound_seats : (seats : List SeatState) (d : Core AnyUsage)
@@ -145,11 +145,12 @@ module _ (m : Moment) (q : ℕ) (o : Option Known) where
         → m.shape.callers ≤ length seats → HasSeen (length m.history) seats
         → IsSound (record letting_go { seats = seats })
     sound_seats seats d is leads size seen = record {
-      good = subst (λ (c : Core AnyUsage). Good any_store any_entry (site_of m) c) (sym is)
-          (good_always any_store any_entry (site_of m) any_laws (core_of m) d sound.good leads);
+      good = λ u. subst (λ (c : Core AnyUsage). Good any_store any_entry (site_of m) c) (sym is)
+          (good_always any_store any_entry (site_of m) any_laws (core_of m) d (sound.good tt) leads);
+      wide = sound.wide;
       known_size = sound.known_size;
       rows_size = sound.rows_size;
-      hands_size = length-set m.hands q (hand_letting (hand_at m q) o) ∙ sound.hands_size;
+      hands_size = length-set m.hands q (hand_letting m.shape q (hand_at m q) o) ∙ sound.hands_size;
       seats_size = size;
       numbered = sound.numbered;
       hands = hands_sound seats;
@@ -178,22 +179,24 @@ module _ (a m : Moment) (same : a ≡ m) (sound : IsSound m) (q : ℕ)
     (awake : IsAwake (core_of m) q (own_view m q) (own_part m q)) (o : Option Known) where
   -- the plain data that the code leaves are those after the split
   pub noted_is : {h h' : HandState} {s note : SeatState} {seen : ℕ} {seats : List SeatState}
-      → h ≡ get_or a.hands q h → h' ≡ hand_letting h o → s ≡ get_or a.seats q s → seen ≡ s.seen
+      → h ≡ get_or a.hands q h → h' ≡ hand_letting a.shape q h o → s ≡ get_or a.seats q s → seen ≡ s.seen
       → note ≡ record { seen = seen; parts = [] } → seats ≡ a.seats ++ note ∷ []
       → record a { hands = set a.hands q h'; seats = seats } ≡ noted m q o
   noted_is {h} {h'} {s} {note} {seen} {seats} eh eh' es ec en more =
       let h_is = hand_read a m same sound q awake h eh in
       let s_is = seat_read a m same sound q awake s es in
+      let let_is = subst (λ (z : Shape). h' ≡ hand_letting z q h o) (ap (λ (z : Moment). z.shape) same) eh' in
       cc
 
   -- and after the meeting
   pub met_is : (other : ℕ) {h h' : HandState} {s t u n spent : SeatState} {parts : List ℕ} {seen : ℕ}
-      → other < length m.seats → h ≡ get_or a.hands q h → h' ≡ hand_letting h o → s ≡ get_or a.seats q s
+      → other < length m.seats → h ≡ get_or a.hands q h → h' ≡ hand_letting a.shape q h o → s ≡ get_or a.seats q s
       → t ≡ get_or a.seats other t → u ≡ get_or a.seats other u → seen ≡ t.seen → parts ≡ u.parts
       → n ≡ record { seen = later s.seen seen; parts = s.parts ++ parts } → spent ≡ no_seat
       → record a { hands = set a.hands q h'; seats = set (set a.seats q n) other spent } ≡ met_with m q o other
   met_is other {h} {h'} {s} {t} {u} {n} {spent} {parts} {seen} inside eh eh' es et eu ec ep en ez =
       let h_is = hand_read a m same sound q awake h eh in
       let s_is = seat_read a m same sound q awake s es in
+      let let_is = subst (λ (z : Shape). h' ≡ hand_letting z q h o) (ap (λ (z : Moment). z.shape) same) eh' in
       let t_is = other_read a m same sound q awake other t inside et in
       let u_is = other_read a m same sound q awake other u inside eu in cc

@@ -13,12 +13,19 @@ pub mod ChronicleFacts
 -- the tests of a step's entry
 pub mod EntryTests
 -- a step that is taken: what it leaves, and that it leads on
+pub mod Listed
 pub mod FieldsRead
 pub mod CallerChanged
 pub mod AfterMove
 pub mod MoveNeeds
 pub mod LetGo
 pub mod Leading
+-- what is known of a cycle
+pub mod Tracks
+pub mod Marks
+pub mod Following
+pub mod FoundWords
+pub mod RoleRows
 -- a fresh machine
 pub mod FirstVersions
 pub mod FirstMoment

@@ -1,6 +1,7 @@
 -- Which seats are there, and whom they carry.
 use Rattle.std.proofs.Common.{◌≡◌, ◌≢◌, ◌↔◌, ◌<◌, ◌+◌, ℕ, zero, suc, Bool, true, List, [], ◌∷◌, length, map, take, Some, None, refl, sym, ap, ◌∙◌, arith}
-use Rattle.std.specs.Prelude.{slice_get}
+use Rattle.std.specs.Prelude.{slice_get, nat_lt}
+use Rattle.std.proofs.lemmas.Bool.{ltb-true, lt-ltb}
 use Rattle.hm_core.proofs.Words.{Entry, AnyUsage, Create, common_name, opening_of, side_entries, side_names, Part, View, Note, IsAwake, MayMeet, SeatState, Moment, core_of, own_part, own_view, IsSound, length-map, length-append, IsAlone}
 use Rattle.hm_core.proofs.Moments.{awake_seated, awake_below, seated_awake, own_seat, view_at, view_from, only_one}
 
@@ -13,6 +14,10 @@ taken : (n : ℕ) (l : List Entry) → 0 < length l → (0 < n) ↔ (take n l �
 taken zero l some = (λ low. absurd (omega arith), λ none. absurd (none refl))
 taken (suc n) [] some = absurd (omega arith)
 taken (suc n) (e ∷ l) some = (λ low z. cc, λ none. omega arith)
+
+-- a number that was read is positive where the one that it is is so
+pub positive : (n s : ℕ) → n ≡ s → (nat_lt 0 n ≡ true) ↔ (0 < s)
+positive n s e = (λ h. let low = ltb-true 0 n h in omega arith, λ h. lt-ltb 0 n (omega arith))
 
 module _ (m : Moment) where
   pub awake_iff : (q : ℕ) (s : SeatState) (b : Bool) → Some s ≡ slice_get m.seats q
@@ -54,7 +59,7 @@ module _ (m : Moment) where
 
     begun : 0 < length m.history
     begun =
-        let legal = sound.good.heap.history.legal in
+        let legal = (sound.good tt).heap.history.legal in
         let long = ap length legal.begins ∙ length-append (opening_of m.start) legal.rest in
         let last = length-append (side_entries 0 m.start.sides)
         (Create 0 (common_name m.start) (side_names 0 m.start.sides) m.start.numbers ∷ []) in omega arith

@@ -27,11 +27,13 @@ pub use Rattle.hm_model.specs.declared.object.Contents.{Contents}
 pub use Rattle.hm_model.specs.declared.object.Name.{Name}
 pub use Rattle.hm_model.specs.declared.object.Start.{Start}
 pub use Rattle.hm_model.specs.declared.usage.AnyUsage.{AnyUsage}
-pub use Rattle.hm_moves.proofs.Fresh.{many, numbered, numbered_at, used_first, used_other, good_fresh, sides_length}
+pub use Rattle.hm_moves.proofs.Fresh.{many, numbered, numbered_at, used_first, used_other, sides_length}
+pub use Rattle.hm_moves.proofs.FreshMachine.{good_fresh}
 pub use Rattle.hm_moves.proofs.Held.{some_more, each_some, contains_first, contains_here, contains_behind, unnamed_wide, from_some}
 pub use Rattle.hm_moves.proofs.Histories.{IsBy, calls_after, calls_beside}
 pub use Rattle.hm_moves.specs.Acts.{becomes, entry_of, finds, listed, next_version, publishes, word_of, field_look, where_zero, looked_at}
-pub use Rattle.hm_moves.specs.After.{is_version, row_of_part, view, with_held, without, letting, count_of, index_with, part_after, seen_after, unless_named, unnamed_from, unnamed}
+pub use Rattle.hm_moves.specs.After.{row_of_part, view, with_held, without, letting, count_of, index_with, part_after, seen_after, unless_named, unnamed_from, unnamed}
+pub use Rattle.hm_moves.specs.Cycles.{is_version}
 pub use Rattle.hm_moves.specs.Allowed.{HasHand, HasRoom, IsBuilt, IsLawfulMove, IsWritten, MayHold, MayLookInto, MayTake, Reads, Spells, Turns, next_name, MayLook, AreKnown, MayBuild}
 pub use Rattle.hm_moves.specs.Chain.{Index, IsPublished, link_of, AreTrue, lookup}
 pub use Rattle.hm_moves.specs.Fresh.{all_known, common_known, fresh_index, fresh_part, fresh_places, fresh_used, IsFreshHeap, IsFreshCore, side_known, starting_known}

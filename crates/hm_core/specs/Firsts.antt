@@ -1,5 +1,5 @@
 -- The tables of a fresh machine.
-use Rattle.std.specs.Prelude.{◌≡◌, ℕ, zero, suc, ◌-◌, List, [], ◌∷◌, ◌++◌, length, map, replicate, slice_set, Option}
+use Rattle.std.specs.Prelude.{◌≡◌, ℕ, zero, suc, ◌-◌, false, List, [], ◌∷◌, ◌++◌, length, map, replicate, slice_set, Option}
 use Rattle.hm_shape.specs.declared.shape.Shape.{Shape}
 use Rattle.hm_model.specs.declared.object.Name.{Name}
 use Rattle.hm_model.specs.declared.entry.Entry.{Entry}
@@ -28,13 +28,12 @@ creates_of firsts = map (λ k. Create 0 k.name k.contents.refs k.contents.number
 -- the first row has as many versions, and all others none
 abbrev pub first_rows : Shape → ℕ → List Row
 first_rows s count =
-    slice_set (replicate (row_count s) no_row) 0 record { used = count; made = count; freed = 0 }
+    slice_set (replicate (row_count s) no_row) 0 record { used = count; made = count; freed = 0; dead = false }
 
 -- each caller holds the common object's version, and the first caller published all
 abbrev pub first_hands : Shape → Known → List Known → List HandState
 first_hands s common firsts =
-    fresh_hand s.versions common firsts
-    ∷ replicate (s.callers - 1) (fresh_hand s.versions common [])
+    fresh_hand s common firsts ∷ replicate (s.callers - 1) (fresh_hand s common [])
 
 -- each caller has a seat of its own
 abbrev pub first_seats : ℕ → ℕ → List SeatState

@@ -1,7 +1,9 @@
 -- The running machine: its plain data, and the moment of the heap that they tell.
-use Rattle.std.specs.Prelude.{◌≡◌, ℕ, ◌+◌, ◌≤◌, ◌<◌, List, length, map, take, slice_index_or, slice_set, Option, Some, None}
+use Rattle.std.specs.Prelude.{◌≡◌, ℕ, ◌+◌, ◌*◌, ◌/◌, ◌%◌, ◌≤◌, ◌<◌, ◌^◌, false, List, length, map, take, slice_index_or, slice_set, Option, Some, None}
+use Rattle.hm_shape.specs.declared.roles.Role.{Role}
 use Rattle.hm_shape.specs.declared.shape.Shape.{Shape}
 use Rattle.hm_shape.specs.Versions.{version_count}
+use Rattle.hm_shape.specs.Words.{word_count}
 use Rattle.hm_model.specs.declared.object.Start.{Start}
 use Rattle.hm_model.specs.declared.entry.Entry.{Entry}
 use Rattle.hm_model.specs.declared.usage.AnyUsage.{AnyUsage}
@@ -12,6 +14,7 @@ use Rattle.hm_moves.specs.declared.part.Site.{Site}
 use Rattle.hm_moves.specs.declared.part.Part.{Part}
 use Rattle.hm_moves.specs.declared.part.View.{View}
 use Rattle.hm_moves.specs.Chain.{Index}
+use Rattle.hm_moves.specs.Cycles.{role_at}
 use Rattle.hm_moves.specs.Places.{Places, row_count}
 use Rattle.hm_moves.specs.After.{count_of, view}
 use Rattle.hm_moves.specs.Good.{Core, Good}
@@ -21,7 +24,7 @@ use Rattle.hm_core.specs.SeatStates.{SeatState, no_seat}
 
 -- nothing is counted of a row that is not there
 abbrev pub no_row : Row
-no_row = record { used = 0; made = 0; freed = 0 }
+no_row = record { used = 0; made = 0; freed = 0; dead = false }
 
 -- the plain data of a machine
 pub record Moment : Type 0 where
@@ -33,6 +36,8 @@ pub record Moment : Type 0 where
   pub known : List (Option Known)
   -- what is counted of each row
   pub rows : List Row
+  -- how many cycles are done
+  pub done : ℕ
   pub history : List Entry
   -- of each caller
   pub hands : List HandState
@@ -66,14 +71,24 @@ seat_at m j = slice_index_or m.seats j no_seat
 abbrev pub row_at : List Row → ℕ → Row
 row_at rows row = slice_index_or rows row no_row
 
+-- a row is used for what its caller's roles say
+abbrev pub role_in : Shape → List HandState → ℕ → Role
+role_in s hands row =
+    role_at (slice_index_or hands (row / s.regions) no_hand).cycle.ties.roles (row % s.regions)
+
 -- the places are told by the rows and the hands
-abbrev pub places_of : Moment → Places
-places_of m = record {
-  used = λ row. (row_at m.rows row).used;
-  made = λ row. (row_at m.rows row).made;
-  freed = λ row. (row_at m.rows row).freed;
-  to = λ q. (hand_at m q).draft.region;
+abbrev pub places_by : Shape → List HandState → List Row → ℕ → Places
+places_by s hands rows done = record {
+  used = λ row. (row_at rows row).used;
+  made = λ row. (row_at rows row).made;
+  freed = λ row. (row_at rows row).freed;
+  role = role_in s hands;
+  dead = λ row. (row_at rows row).dead;
+  done = done;
 }
+
+abbrev pub places_of : Moment → Places
+places_of m = places_by m.shape m.hands m.rows m.done
 
 -- what is kept of a caller
 abbrev pub own_part : Moment → ℕ → Part AnyUsage
@@ -83,7 +98,7 @@ own_part m q = record {
   draft = (hand_at m q).draft;
   hands = (hand_at m q).hands;
   calls = record { mine = calls_of q m.history };
-  cycle = record {};
+  cycle = (hand_at m q).cycle;
 }
 
 -- what a seat knows: the history that it has seen, and its callers
@@ -106,16 +121,17 @@ core_of m = record {
 abbrev pub own_view : Moment → ℕ → View AnyUsage
 own_view m q = seat_view m (seat_at m q)
 
--- a hand is sound where it writes into a region, and has room for one own version at each of its
--- places
+-- a hand is sound where it writes into a region, and has room for one own version at each place of
+-- its regions
 pub record IsSoundHand (m : Moment) (h : HandState) : Type 0 where
   pub region : h.draft.region < m.shape.regions
-  pub room : h.room ≡ m.shape.versions
-  pub own : length h.hands.own ≡ h.draft.used
+  pub room : h.room ≡ m.shape.regions * m.shape.versions
 
 -- the plain data are sound where the state that they tell is good, and the tables have their sizes
 pub record IsSound (m : Moment) : Type 0 where
-  pub good : Good any_store any_entry (site_of m) (core_of m)
+  -- behind a unit, so that no search for a proof opens all of it
+  pub good : Unit {0} → Good any_store any_entry (site_of m) (core_of m)
+  pub wide : length m.words ≡ word_count m.shape
   pub known_size : length m.known ≡ version_count m.shape
   pub rows_size : length m.rows ≡ row_count m.shape
   pub hands_size : length m.hands ≡ m.shape.callers
@@ -125,6 +141,11 @@ pub record IsSound (m : Moment) : Type 0 where
   pub hands : (q : ℕ) → q < m.shape.callers → IsSoundHand m (hand_at m q)
   -- no seat has seen more than the history
   pub seen : (j : ℕ) → (seat_at m j).seen ≤ length m.history
+
+-- stamp and rank of a version can be raised
+pub record IsSmall (k : Known) : Type 0 where
+  pub stamp : k.contents.stamp + 1 < 2 ^ 64
+  pub rank : k.rank + 1 < 2 ^ 64
 
 -- what is known once a version is published
 abbrev pub known_with : List (Option Known) → Option Known → List (Option Known)

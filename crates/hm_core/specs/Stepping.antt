@@ -1,5 +1,5 @@
 -- The running machine: which seat takes a step, which act the step is, and what it needs.
-use Rattle.std.specs.Prelude.{◌≡◌, ◌≢◌, ℕ, ◌+◌, ◌<◌, true, [], ◌∷◌, Option, Some, None, option_map, option_and_then}
+use Rattle.std.specs.Prelude.{◌≡◌, ◌≢◌, ℕ, ◌+◌, ◌<◌, ◌^◌, Bool, true, false, [], ◌∷◌, Option, Some, None, option_map, option_and_then, if◌then◌else◌}
 use mathlib.Core.Option.{some}
 use lib.ListN.{get_elem?}
 use Rattle.hm_shape.specs.declared.version.Version.{Version}
@@ -16,12 +16,16 @@ use Rattle.hm_moves.specs.declared.part.Part.{Part}
 use Rattle.hm_moves.specs.declared.part.View.{View}
 use Rattle.hm_moves.specs.declared.moving.Look.TheVariants as look
 use Rattle.hm_moves.specs.declared.moving.Build.TheVariants as build
+use Rattle.hm_moves.specs.declared.moving.Tick.{Tick}
+use Rattle.hm_moves.specs.declared.moving.Tick.TheVariants as tick
+use Rattle.hm_moves.specs.declared.moving.Shift.{Shift}
+use Rattle.hm_moves.specs.declared.moving.Shift.TheVariants as shift
 use Rattle.hm_moves.specs.declared.moving.Act.{Act}
-use Rattle.hm_moves.specs.declared.moving.Act.TheVariants.{Looks, Builds}
+use Rattle.hm_moves.specs.declared.moving.Act.TheVariants.{Looks, Builds, Ticks, Shifts}
 use Rattle.hm_moves.specs.Chain.{Index}
 use Rattle.hm_moves.specs.Acts.{field_look, next_version}
 use Rattle.hm_moves.specs.After.{is_naming}
-use Rattle.hm_moves.specs.Allowed.{AreWrittenFrom, Names, MayLookInto, HasRoom, HasHand, MayTake}
+use Rattle.hm_moves.specs.Allowed.{AreWrittenFrom, HoldsClean, IsLaterThan, Names, MayLookInto, HasRoom, HasHand, MayTake}
 use Rattle.hm_moves.specs.Good.{Core, Carries}
 use Rattle.hm_core.specs.declared.step.StepKind.{StepKind}
 use Rattle.hm_core.specs.declared.step.StepKind.TheVariants.{LoadField, LoadLink, StoreOwn, Publish, LinkStore, Split, Meet}
@@ -52,6 +56,33 @@ first_known v (Create q n refs numbers) =
     Some record { version = v; name = n; rank = 0; contents = new_contents refs numbers }
 first_known v entry = None
 
+-- a load may be one of a scan
+abbrev pub scan_of : StepKind → Bool
+scan_of (LoadField v i scan) = scan
+scan_of (LoadLink v entry scan) = scan
+scan_of kind = false
+
+-- the stages of an act have words, where so few cycles are done
+abbrev pub IsPackable : Act → Type 0
+IsPackable (Ticks (tick.MoveStage from to)) = (from.done < 2 ^ 30) × (to.done < 2 ^ 30)
+IsPackable act = Unit {0}
+
+-- a tick is on the reply of a caller that is there, and so a step on roles
+abbrev pub IsTickOf : ℕ → Tick → Type 0
+IsTickOf callers (tick.LoadReply of) = of < callers
+IsTickOf callers tick = Unit {0}
+
+abbrev pub IsShiftOf : ℕ → Shift → Type 0
+IsShiftOf callers (shift.LoadRoles of) = of < callers
+IsShiftOf callers shift = Unit {0}
+
+-- an act that looks or builds is work on versions
+abbrev pub IsWork : Act → Type 0
+IsWork (Looks l) = Unit {0}
+IsWork (Builds b) = Unit {0}
+IsWork (Ticks t) = ⊥
+IsWork (Shifts f) = ⊥
+
 -- a kind moves a word where it is neither a split nor a meeting
 abbrev pub IsAct : StepKind → Type 0
 IsAct Split = ⊥
@@ -78,7 +109,8 @@ module _ {U : Type 0} where
       (λ at. option_map (λ fresh. Builds (build.LinkStore at fresh (Some entry)))
       (later_known (next_version p) at entry))
       (index v.0)
-  act_of index p kind = None
+  act_of index p Split = None
+  act_of index p (Meet other) = None
 
   -- a caller takes steps while its own part is the first that its seat carries
   pub record IsAwake (c : Core U) (q : ℕ) (v : View U) (p : Part U) : Type 0 where
@@ -121,7 +153,10 @@ module _ {U : Type 0} where
   MayHoldMore p (StoreOwn i word) = Unit {0}
   MayHoldMore p Split = Unit {0}
   MayHoldMore p (Meet other) = Unit {0}
-  MayHoldMore p kind = HasHand p
+  MayHoldMore p (LoadField v i scan) = HasHand p
+  MayHoldMore p (LoadLink v entry scan) = HasHand p
+  MayHoldMore p (Publish entry) = HasHand p
+  MayHoldMore p (LinkStore v entry) = HasHand p
 
   -- a place is left for the caller's next version, and the word is one of the kind's
   abbrev pub HasPlace : Part U → StepKind → Type 0
@@ -137,15 +172,22 @@ module _ {U : Type 0} where
   HasWords p (LinkStore v entry) = AreWrittenFrom p 0
   HasWords p kind = Unit {0}
 
+  -- a caller may take an act, by the words and the history of the heap
+  abbrev pub MayAct : Core U → Part U → Act → Type 0
+  MayAct c p a =
+      MayTake (IsThere (store_of c.heap.history)) (λ e. Unit {0}) (HoldsClean c.heap.words p)
+      (IsLaterThan p.site.shape c.heap) p a
+
   -- a kind that moves a word fits where it is an act that its caller may take
   abbrev pub IsTaken : Core U → Part U → StepKind → Type 0
   IsTaken c p kind =
-      (a : Act) × (act_of c.heap.index p kind ≡ Some a)
-      × MayTake (IsThere (store_of c.heap.history)) (λ e. Unit {0}) p a
+      (a : Act) × (act_of c.heap.index p kind ≡ Some a) × MayAct c p a
 
   -- words and answer fit the entry and the version
   abbrev pub Fits : Core U → Part U → StepKind → Type 0
+  Fits c p (LoadField v i scan) = IsTaken c p (LoadField v i scan)
+  Fits c p (LoadLink v entry scan) = IsTaken c p (LoadLink v entry scan)
+  Fits c p (StoreOwn i word) = IsTaken c p (StoreOwn i word)
   Fits c p (Publish entry) = IsTaken c p (Publish entry) × (caller_of entry ≡ p.number)
-  Fits c p Split = Unit {0}
-  Fits c p (Meet other) = Unit {0}
-  Fits c p kind = IsTaken c p kind
+  Fits c p (LinkStore v entry) = IsTaken c p (LinkStore v entry)
+  Fits c p kind = Unit {0}

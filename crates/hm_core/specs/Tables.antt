@@ -11,6 +11,7 @@ moment_of a = record {
   words = a.words.items;
   known = a.known.items;
   rows = a.rows.items;
+  done = a.done;
   history = a.chronicle.entries;
   hands = a.hands.items;
   seats = a.seats.items;

@@ -13,7 +13,7 @@ use Rattle.hm_core.specs.declared.step.StepKind.{StepKind}
 use Rattle.hm_core.specs.declared.step.StepKind.TheVariants.{StoreOwn, Publish, Split, Meet}
 use Rattle.hm_core.specs.declared.step.StepRefused.{StepRefused}
 use Rattle.hm_core.specs.declared.step.StepRefused.TheVariants as refused
-use Rattle.hm_core.specs.Stepping.{seat_of, act_of, IsAwake, HasSeat, HoldsWhatItNeeds, IsHeld, MayHoldMore, HasPlace, HasWords, Fits}
+use Rattle.hm_core.specs.Stepping.{seat_of, act_of, scan_of, IsAwake, HasSeat, HoldsWhatItNeeds, IsHeld, MayHoldMore, HasPlace, HasWords, Fits}
 use Rattle.hm_core.specs.Running.{Moment, core_of, own_part, own_view, index_of}
 
 -- what a step lets go of is known by its number
@@ -34,7 +34,7 @@ pub record Moves (m n : Moment) (step : Step) (word : ℕ) : Type 0 where
   pub is : act_of (index_of m.known) (own_part m step.caller) step.kind ≡ Some act
   pub now : core_of n
       ≡ applied (core_of m) step.caller 0 (own_view m step.caller) (own_part m step.caller)
-      record { act = act; let_go = let_go_of m step.let_go }
+      record { act = act; scan = scan_of step.kind; let_go = let_go_of m step.let_go }
   pub answer : word
       ≡ answer_of step.kind (slice_index m.words (word_of (own_part m step.caller) act))
 

@@ -130,7 +130,14 @@ impl Machine {
             unreachable!()
         };
         let let_go = self.let_go_of(s.let_go);
-        let x = self.take(s.caller, &Move { act, let_go })?;
+        let x = self.take(
+            s.caller,
+            &Move {
+                act,
+                scan: s.kind.is_scan(),
+                let_go,
+            },
+        )?;
         Ok(match s.kind {
             StepKind::StoreOwn { .. } | StepKind::Publish { .. } => 0,
             _ => x,

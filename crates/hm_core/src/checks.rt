@@ -97,7 +97,7 @@ impl Machine {
             | StepKind::LoadLink { v, .. }
             | StepKind::LinkStore { v, .. } => self.may_look_into(caller, v),
             StepKind::StoreOwn { i, word } => self.is_named(caller, i, word),
-            StepKind::Publish { .. } | StepKind::Split | StepKind::Meet { .. } => true,
+            _ => true,
         }
     }
 
@@ -107,8 +107,11 @@ impl Machine {
         ensures { IsTrue result ↔ MayHoldMore (own_part self.now caller) kind.now }
     {
         match *kind {
-            StepKind::StoreOwn { .. } | StepKind::Split | StepKind::Meet { .. } => true,
-            _ => self.has_hand(caller),
+            StepKind::LoadField { .. }
+            | StepKind::LoadLink { .. }
+            | StepKind::Publish { .. }
+            | StepKind::LinkStore { .. } => self.has_hand(caller),
+            _ => true,
         }
     }
 
@@ -121,7 +124,7 @@ impl Machine {
             StepKind::LoadField { i, .. } => 0 < i && i < VERSION_WORDS,
             StepKind::StoreOwn { i, .. } => self.has_room(caller) && i < VERSION_WORDS,
             StepKind::Publish { .. } | StepKind::LinkStore { .. } => self.has_room(caller),
-            StepKind::LoadLink { .. } | StepKind::Split | StepKind::Meet { .. } => true,
+            _ => true,
         }
     }
 

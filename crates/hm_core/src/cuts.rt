@@ -1,34 +1,99 @@
 //! A move cut into the word that it moves, what that becomes, and what it makes and finds.
-ghost use Rattle.std.specs.Prelude.{◌≡◌, ◌+◌, ◌<◌, ◌^◌, length};
+ghost use Rattle.std.specs.Prelude.{◌≡◌, ◌+◌, ◌*◌, ◌<◌, ◌≤◌, ◌^◌, length};
 ghost use Rattle.hm_model.specs.declared.entry.Entry.TheVariants.{Create};
 ghost use Rattle.hm_moves.specs.Acts.{word_of as moved_word, becomes as word_after, entry_of, publishes as published_by, finds as found_by, field_look as field_load};
-ghost use Rattle.hm_moves.specs.Acts.{build_word, looked_at, looked_word};
-ghost use Rattle.hm_moves.specs.Allowed.{IsWordOf, MayBuild, MayTake};
+ghost use Rattle.hm_moves.specs.Acts.{build_word, built_word, looked_at, looked_word, shift_word, shifted_word, tick_word, ticked_word};
+ghost use Rattle.hm_moves.specs.Allowed.{HoldsClean, IsLaterThan, IsWordOf, MayBuild, MayShift, MayTake, MayTick};
+ghost use Rattle.hm_moves.specs.Decoding.{seen_word as word_of_seen};
 ghost use Rattle.hm_shape.specs.Layout.{version_words};
-ghost use Rattle.hm_core.specs.Stepping.{act_of as act_by, first_known as first_of, later_known as later_of, HasPlace};
+ghost use Rattle.hm_shape.specs.Words.{phase_number as number_of_phase};
+ghost use Rattle.hm_moves.specs.declared.moving.Act.TheVariants.{Ticks};
+ghost use Rattle.hm_core.specs.Stepping.{act_of as act_by, first_known as first_of, later_known as later_of, HasPlace, IsPackable, IsShiftOf, IsTickOf};
 
 use crate::contents::{new_contents, with_all, with_field};
 use crate::machine::Machine;
 use crate::step::StepKind;
 use hm_model::{Entry, Tried};
-use hm_moves::{Act, Build, Known, Look};
-use hm_shape::{FIRST_NUMBER, FIRST_REFERENCE, LINK, STAMP, Version};
+use hm_moves::{Act, Build, Known, Look, Seen, Shift, Tick};
+use hm_shape::{FIRST_NUMBER, FIRST_REFERENCE, LINK, Phase, STAGE_AT, STAMP, Shape, Version};
 
 // What the word that an act moves becomes, where this was found.
 pub(crate) fn becomes(act: &Act, found: u64) -> u64
+    requires { IsPackable act.now }
     ensures { result ≡ word_after act.now found }
 {
     match *act {
         Act::Looks(_) => found,
-        Act::Builds(Build::StoreOwn { word, .. }) => word,
-        Act::Builds(Build::Publish { .. }) => 0,
-        Act::Builds(Build::LinkStore { fresh, .. }) => {
+        Act::Builds(build) => becomes_built(&build, found),
+        Act::Ticks(tick) => becomes_ticked(&tick, found),
+        Act::Shifts(shift) => becomes_shifted(&shift, found),
+    }
+}
+
+// So for a step that builds.
+fn becomes_built(build: &Build, found: u64) -> u64
+    ensures { result ≡ built_word build.now found }
+{
+    match *build {
+        Build::StoreOwn { word, .. } => word,
+        Build::Publish { .. } => 0,
+        Build::LinkStore { fresh, .. } => {
             if found == 0 {
                 fresh.version.name()
             } else {
                 found
             }
         }
+        Build::Shorten { target, .. } => target.version.name(),
+    }
+}
+
+// For a tick.
+fn becomes_ticked(tick: &Tick, found: u64) -> u64
+    requires { IsPackable (Ticks tick.now) }
+    ensures { result ≡ ticked_word tick.now found }
+{
+    match *tick {
+        Tick::LoadStage | Tick::LoadReply { .. } => found,
+        Tick::MoveStage { from, to } => {
+            if found == seen_word(from) {
+                seen_word(to)
+            } else {
+                found
+            }
+        }
+        Tick::StoreReply { reply } => reply.pack(),
+    }
+}
+
+// And for a step on roles.
+fn becomes_shifted(shift: &Shift, found: u64) -> u64
+    ensures { result ≡ shifted_word shift.now found }
+{
+    match *shift {
+        Shift::LoadRoles { .. } => found,
+        Shift::Join { roles, .. } | Shift::Turn { roles, .. } | Shift::Reuse { roles } =>
+            roles.pack(),
+    }
+}
+
+// The word of a stage.
+pub(crate) fn seen_word(stage: Seen) -> u64
+    requires { stage.done < 2 ^ 30 }
+    ensures { result ≡ word_of_seen stage }
+{
+    u64::from(stage.number) * (1 << 32) + u64::from(stage.done) * 4 + phase_number(stage.phase)
+}
+
+// The number of a phase, in the order of a cycle.
+fn phase_number(phase: Phase) -> u64
+    ensures { result ≡ number_of_phase phase }
+{
+    match phase {
+        Phase::Idle => 0,
+        Phase::Join => 1,
+        Phase::First => 2,
+        Phase::Second => 3,
     }
 }
 
@@ -91,7 +156,7 @@ fn field_look(at: Known, i: u32) -> Look
 }
 
 // The version of which a load is, and which of its words.
-fn word_looked_at(look: &Look) -> (Version, u32)
+pub(crate) fn word_looked_at(look: &Look) -> (Version, u32)
     requires { IsWordOf look.now }
     ensures version { result.0 ≡ (looked_at look.now).version }
     ensures word { result.1 ≡ looked_word look.now }
@@ -149,6 +214,33 @@ fn later_known(version: Version, at: &Known, entry: &Entry) -> Option<Known>
     })
 }
 
+// The word that a tick moves.
+fn tick_at(shape: Shape, caller: u32, tick: &Tick) -> u64
+    requires caller { caller < shape.callers }
+    requires of { IsTickOf shape.callers tick.now }
+    ensures value { result ≡ tick_word caller tick.now }
+    ensures below { result ≤ shape.callers }
+{
+    match *tick {
+        Tick::LoadStage | Tick::MoveStage { .. } => STAGE_AT,
+        Tick::LoadReply { of } => shape.reply_at(of),
+        Tick::StoreReply { .. } => shape.reply_at(caller),
+    }
+}
+
+// The word that a step on roles moves.
+fn shift_at(shape: Shape, caller: u32, shift: &Shift) -> u64
+    requires caller { caller < shape.callers }
+    requires of { IsShiftOf shape.callers shift.now }
+    ensures value { result ≡ shift_word shape caller shift.now }
+    ensures below { result ≤ 2 * shape.callers }
+{
+    match *shift {
+        Shift::LoadRoles { of } => shape.roles_at(of),
+        Shift::Join { .. } | Shift::Turn { .. } | Shift::Reuse { .. } => shape.roles_at(caller),
+    }
+}
+
 impl Machine {
     ghost use Rattle.hm_model.specs.Store.{IsThere};
     ghost use Rattle.hm_model.specs.History.{store_of};
@@ -194,30 +286,23 @@ impl Machine {
         requires awake { IsAwake (core_of self.now) caller (own_view self.now caller)
             (own_part self.now caller) }
         requires may { MayTake (IsThere (store_of self.now.history)) (λ e. Unit {0})
-            (own_part self.now caller) act.now }
+            (HoldsClean self.now.words (own_part self.now caller))
+            (IsLaterThan self.now.shape (core_of self.now).heap) (own_part self.now caller) act.now }
         ensures value { result ≡ moved_word (own_part self.now caller) act.now }
         ensures below { result < length self.now.words }
     {
-        let (version, i) = self.place_of(caller, act);
-        version.word_of(self.shape, i)
-    }
-
-    // The version whose word an act moves, and which of its words.
-    fn place_of(&self, caller: u32, act: &Act) -> (Version, u32)
-        requires caller { caller < self.now.shape.callers }
-        requires awake { IsAwake (core_of self.now) caller (own_view self.now caller)
-            (own_part self.now caller) }
-        requires may { MayTake (IsThere (store_of self.now.history)) (λ e. Unit {0})
-            (own_part self.now caller) act.now }
-        ensures value { moved_word (own_part self.now caller) act.now
-            ≡ word_at self.now.shape result.0 result.1 }
-        ensures version { IsVersionOf self.now.shape result.0 }
-        ensures word { result.1 < version_words }
-    {
         let _shape = &self.shape;
         match *act {
-            Act::Looks(look) => word_looked_at(&look),
-            Act::Builds(build) => self.place_built(caller, &build),
+            Act::Looks(look) => {
+                let (version, i) = word_looked_at(&look);
+                version.word_of(self.shape, i)
+            }
+            Act::Builds(build) => {
+                let (version, i) = self.place_built(caller, &build);
+                version.word_of(self.shape, i)
+            }
+            Act::Ticks(tick) => tick_at(self.shape, caller, &tick),
+            Act::Shifts(shift) => shift_at(self.shape, caller, &shift),
         }
     }
 
@@ -227,7 +312,9 @@ impl Machine {
         requires awake { IsAwake (core_of self.now) caller (own_view self.now caller)
             (own_part self.now caller) }
         requires may { MayBuild (IsThere (store_of self.now.history)) (λ e. Unit {0})
-            (own_part self.now caller) build.now }
+            (HoldsClean self.now.words (own_part self.now caller))
+            (IsLaterThan self.now.shape (core_of self.now).heap) (own_part self.now caller)
+            build.now }
         ensures value { build_word (own_part self.now caller) build.now
             ≡ word_at self.now.shape result.0 result.1 }
         ensures version { IsVersionOf self.now.shape result.0 }
@@ -238,6 +325,7 @@ impl Machine {
             Build::LinkStore { at, .. } => (at.version, LINK),
             Build::StoreOwn { i, .. } => (self.next_version(caller), i as u32),
             Build::Publish { .. } => (self.next_version(caller), LINK),
+            Build::Shorten { at, i, .. } => (at.version, i as u32),
         }
     }
 

@@ -15,10 +15,9 @@ use hm_shape::{FIRST_NUMBER, FIRST_REFERENCE, LINK, STAMP, Version};
 impl Machine {
     ghost use Rattle.hm_model.specs.History.{store_of};
     ghost use Rattle.hm_model.specs.Store.{IsSized, IsThere};
-    ghost use Rattle.hm_moves.specs.Places.{IsFit};
     ghost use Rattle.hm_moves.specs.Allowed.{IsWritten, Spells, IsBuilt, AreKnown, IsKnownField, IsGiven, Reads, Turns, HasRoom};
     ghost use Rattle.hm_core.specs.Stepping.{IsAwake, IsLookable, HoldsWhatItNeeds, HasPlace, IsPlain, Fits};
-    ghost use Rattle.hm_core.specs.Running.{core_of, own_part, own_view, IsSound};
+    ghost use Rattle.hm_core.specs.Running.{core_of, own_part, own_view, IsSmall, IsSound};
 
     // Whether each reference is none, or names an object that is there.
     fn are_there(&self, refs: &[Option<Name>; 4]) -> bool
@@ -227,7 +226,7 @@ impl Machine {
     // What an entry of the caller's own turns the contents of a version into, where it stands there.
     fn turned(&self, caller: u32, at: &Known, entry: &Entry) -> Option<Contents>
         requires caller { caller < self.now.shape.callers }
-        requires fit { IsFit self.now.shape 0 at.now }
+        requires small { IsSmall at.now }
         ensures turned { IfSome result (λ x. Turns (IsThere (store_of self.now.history))
             (own_part self.now caller) at.now x entry.now) }
         ensures only { (x : Contents) → Turns (IsThere (store_of self.now.history))
@@ -296,7 +295,7 @@ impl Machine {
             StepKind::Publish { entry } => self.creates(caller, &entry),
             StepKind::LinkStore { v, entry } => self.hangs(caller, v, &entry),
             StepKind::LoadField { .. } | StepKind::StoreOwn { .. } => self.is_plain(caller, kind),
-            StepKind::Split | StepKind::Meet { .. } => true,
+            _ => true,
         }
     }
 

@@ -1,24 +1,32 @@
-//! What the machine keeps of a caller: its draft, and the versions that it may look into.
-ghost use Rattle.std.specs.Prelude.{◌≡◌, ◌≤◌, ◌<◌, ◌↔◌, ◌+◌, ◌^◌, ◌==◌, ◌&&◌, Some, None, IfOk, IfSome, IsTrue, Contains, length, slice_set, slice_index_or};
-ghost use Rattle.std.specs.List.{list_any};
+//! What the machine keeps of a caller: its draft, the versions that it may look into, and its cycle.
+ghost use Rattle.std.specs.Prelude.{◌≡◌, ℕ, ◌++◌, [], nat_le, is_some, Option, ◌≤◌, ◌<◌, ◌↔◌, ◌+◌, ◌*◌, ◌^◌, ◌==◌, ◌&&◌, not, Some, None, IfOk, IfSome, IsTrue, OnErr, OnOk, Contains, length, slice_get, slice_set, slice_index_or};
+ghost use Rattle.std.specs.List.{list_all, list_any};
 ghost use Rattle.hm_shape.specs.Layout.{version_words};
 ghost use Rattle.hm_shape.specs.Words.{naming_word};
 ghost use Rattle.hm_model.specs.Store.{is_same};
 ghost use Rattle.hm_moves.specs.declared.part.Known.{Known};
 ghost use Rattle.hm_moves.specs.After.{is_naming, unless_named, unnamed};
+ghost use Rattle.hm_shape.specs.Versions.{owner_of, region_of};
+ghost use Rattle.hm_moves.specs.Acts.{listed, looked_at, looked_word};
+ghost use Rattle.hm_moves.specs.Cycles.{field_count, field_word as word_of_field, found_end, gives_from};
 
-use crate::cuts::publishes;
+use crate::cuts::{publishes, word_looked_at};
+use crate::track::Track;
 use hm_model::Name;
-use hm_moves::{Act, Build, Known, Move};
-use hm_shape::{FIRST_NUMBER, FIRST_REFERENCE, LINK, VERSION_WORDS, Version};
+use hm_moves::{Act, Build, End, Known, Look, Move, Shift};
+use hm_shape::{FIRST_NUMBER, FIRST_REFERENCE, LINK, Shape, VERSION_WORDS, Version};
 use std::alloc::{AllocError, Global};
 use std::marker::Model;
+use std::mem;
 
 /// The most versions that a caller holds when it takes one more.
 pub(crate) const MOST_HELD: u64 = 512;
 
-/// A caller's draft, and the versions that it holds, published, and left behind. There is room for as many own ones
-/// as a region has places.
+/// How many words of a version name others: its link and its references.
+const FIELDS: u64 = 5;
+
+/// A caller's draft, the versions that it holds, published, and left behind, and what it knows of the cycle. There is
+/// room for as many own ones, and for as many left behind, as its regions have places.
 #[derive(Drop)]
 pub(crate) struct Hand {
     room: u32,
@@ -28,6 +36,7 @@ pub(crate) struct Hand {
     held: Vec<Known>,
     own: Vec<Known>,
     left: Vec<Known>,
+    track: Track,
 }
 
 impl Model for Hand {
@@ -37,27 +46,38 @@ impl Model for Hand {
     ghost Value = { HandState };
 
     ghost view = { λ h. hand_by h.room h.region h.used h.written
-        h.held.items h.own.items h.left.items };
+        h.held.items h.own.items h.left.items h.track };
 
     ghost invariant = { λ h. IsLaidOut
-        (hand_by h.room h.region h.used h.written h.held.items h.own.items h.left.items)
-        (vec_capacity h.held) (vec_capacity h.own) };
+        (hand_by h.room h.region h.used h.written h.held.items h.own.items h.left.items h.track)
+        (vec_capacity h.held) (vec_capacity h.own) (vec_capacity h.left) };
 }
 
 impl Hand {
-    ghost use Rattle.hm_core.specs.Hands.{HasVersion, CanHold, CanPublish, CanFollow, IsOwnWord, fresh_hand, hand_after, hand_letting, holding, writing, publishing};
-    ghost use Rattle.hm_moves.specs.Allowed.{Names, Spells};
+    ghost use Rattle.hm_core.specs.Hands.{HandState, HasVersion, CanHold, CanPublish, CanReady, CanWork, CanFollow, IsLookWord, IsOwnWord, fresh_hand, ending, hand_after, hand_bared, hand_letting, hand_noted, hand_readied, hand_worked, holding, listing, part_by, redrafting, writing, publishing};
+    ghost use Rattle.hm_moves.specs.declared.moving.Act.TheVariants.{Builds, Shifts};
+    ghost use Rattle.hm_moves.specs.declared.moving.Move.{Move};
+    ghost use Rattle.hm_moves.specs.Shifts.{left_after};
+    ghost use Rattle.hm_moves.specs.Allowed.{IsWordOf, Names, Spells};
     ghost use Rattle.hm_moves.specs.After.{with_held, without, written_with};
+    ghost use Rattle.hm_moves.specs.Cycles.{holds_from as part_holds_from, is_at_cursor as cursor_at, is_scan as part_scans, known_from, meets as part_meets, passes as part_passes};
 
     /// A hand that holds one version and has published these, with no word written.
-    pub fn new(alloc: Global, room: u32, common: Known, own: &[Known]) -> Result<Hand, AllocError>
-        requires { length own.now ≤ room }
-        ensures { IfOk result (λ hand. hand ≡ fresh_hand room common own.now) }
+    pub fn new(
+        alloc: Global,
+        shape: Shape,
+        common: Known,
+        own: &[Known],
+    ) -> Result<Hand, AllocError>
+        requires { length own.now ≤ shape.versions }
+        ensures { IfOk result (λ hand. hand ≡ fresh_hand shape common own.now) }
     {
+        let room = shape.regions * shape.versions;
         let mut held = Vec::with_capacity(alloc, MOST_HELD as usize)?;
         held.push(common)?;
         let mut published = Vec::with_capacity(alloc, room as usize)?;
         published.extend_from_slice(own)?;
+        let left = Vec::with_capacity(alloc, room as usize)?;
         Ok(Hand {
             room,
             region: 0,
@@ -65,7 +85,8 @@ impl Hand {
             written: [None; 16],
             held,
             own: published,
-            left: Vec::new(alloc),
+            left,
+            track: Track::new(alloc, shape)?,
         })
     }
 
@@ -129,10 +150,225 @@ impl Hand {
         }
     }
 
-    /// The hand after a move that found a word and the version that it names.
-    pub fn follow(&mut self, m: &Move, x: u64, found: Option<Known>)
+    /// The versions that the caller published in its To and Old regions, in order of publishing.
+    pub fn own(&self) -> &[Known]
+        ensures { result.now ≡ self.now.hands.own }
+    {
+        self.own.as_slice()
+    }
+
+    /// What it knows of the cycle.
+    pub fn track(&self) -> &Track
+        ensures { result.now ≡ self.now.cycle }
+    {
+        &self.track
+    }
+
+    /// Whether it knows a version as from-space.
+    pub fn knows_from(&self, shape: Shape, v: Version) -> bool
+        ensures { (q : ℕ) → result ≡ known_from (part_by shape q self.now) v }
+    {
+        knows_from(&self.track, shape, v)
+    }
+
+    /// Whether it holds a version that it knows as from-space.
+    pub fn holds_from(&self, shape: Shape) -> bool
+        ensures { (q : ℕ) → result ≡ part_holds_from (part_by shape q self.now) }
+    {
+        knows_any_from(&self.track, shape, self.held.as_slice())
+    }
+
+    /// The end of a chain that an act has found is noted, before the hand follows the move. Without memory nothing
+    /// changes.
+    pub fn note_end(&mut self, act: &Act, found: u64) -> Result<(), AllocError>
+        ensures noted { OnOk result (self.new ≡ ending self.old (found_end act.now found)) }
+        ensures unchanged { OnErr result (self.new ≡ self.old) }
+    {
+        if let Some(end) = end_found(act, found) {
+            self.track.push_end(end)?;
+        }
+        Ok(())
+    }
+
+    /// That end is forgotten.
+    pub fn drop_end(&mut self, act: &Act, found: u64)
+        ensures { (h : HandState) → self.old ≡ ending h (found_end act.now found) → self.new ≡ h }
+    {
+        if end_found(act, found).is_some() {
+            self.track.pop_end();
+        }
+    }
+
+    /// The hand after a move that found a word and the version that it names, once its end is noted.
+    pub fn follow(&mut self, shape: Shape, caller: u32, m: &Move, x: u64, found: Option<Known>)
         requires { CanFollow self.old m.now x found }
-        ensures { self.new ≡ hand_after self.old m.now x found }
+        ensures { (h : HandState) → self.old ≡ ending h (found_end m.now.act x)
+            → self.new ≡ hand_after shape caller h m.now x found }
+    {
+        self.ready(caller, &m.act, x);
+        self.note(shape, m, found);
+        self.work(m, x, found);
+        self.bare(shape);
+    }
+
+    /// The hand after a version is let go alone.
+    pub fn release(&mut self, shape: Shape, let_go: Option<Known>)
+        ensures { (q : ℕ) → self.new ≡ hand_letting shape q self.old let_go }
+    {
+        self.leave(let_go);
+        self.forget(let_go);
+        self.bare(shape);
+    }
+
+    // What an act that found a word does to stage, replies and regions.
+    fn ready(&mut self, caller: u32, act: &Act, x: u64)
+        requires { CanReady self.old act.now x }
+        ensures { (s : Shape) → self.new ≡ hand_readied s caller self.old act.now x }
+    {
+        match *act {
+            Act::Looks(_) | Act::Builds(_) => {}
+            Act::Ticks(tick) => self.track.tick(&tick, x),
+            Act::Shifts(shift) => self.shift(caller, &shift, x),
+        }
+    }
+
+    // What a step on roles that found a word does.
+    fn shift(&mut self, caller: u32, shift: &Shift, x: u64)
+        requires { CanReady self.old (Shifts shift.now) x }
+        ensures { (s : Shape) → self.new ≡ hand_readied s caller self.old (Shifts shift.now) x }
+    {
+        match *shift {
+            Shift::LoadRoles { of } => self.track.load_roles(caller, of, x),
+            Shift::Join { region, roles } => {
+                self.leave_behind();
+                self.redraft(region);
+                self.track.join_with(roles);
+            }
+            Shift::Turn { region, roles } => {
+                self.redraft(region);
+                self.track.turn_to(roles);
+            }
+            Shift::Reuse { roles } => {
+                self.left.clear();
+                self.track.reuse_as(roles);
+            }
+        }
+    }
+
+    // The own versions are left behind, where those that were before are freed or not.
+    fn leave_behind(&mut self)
+        requires { length self.old.hands.left + length self.old.hands.own ≤ self.old.room }
+        ensures { (s : Shape) (q : ℕ) → self.new ≡ listing self.old
+            (left_after (part_by s q self.old) ++ self.old.hands.own) [] }
+    {
+        if self.track.done() < self.track.stage().done {
+            mem::swap(&mut self.left, &mut self.own);
+            self.own.clear();
+        } else {
+            self.left.append(&mut self.own).unwrap();
+        }
+    }
+
+    // The draft is a fresh one in a region.
+    fn redraft(&mut self, region: u32)
+        ensures { self.new ≡ redrafting self.old region }
+    {
+        self.region = region;
+        self.used = 0;
+        self.written = [None; 16];
+    }
+
+    // Mark and cursor after a move that found a version.
+    fn note(&mut self, shape: Shape, m: &Move, found: Option<Known>)
+        requires look { IsLookWord m.now.act }
+        requires cursor { self.old.cycle.scan.cursor + 1 < 2 ^ 64 }
+        ensures { self.new ≡ hand_noted shape self.old m.now found }
+    {
+        let passes = self.passes(shape, m, found);
+        let marks = !self.is_scan(m) && self.meets(shape, found);
+        self.track.note(marks, passes);
+    }
+
+    // Whether what is found is known as from-space.
+    fn meets(&self, shape: Shape, found: Option<Known>) -> bool
+        ensures { result ≡ part_meets (part_by shape 0 self.now) found }
+    {
+        match found {
+            Some(known) => knows_from(&self.track, shape, known.version),
+            None => false,
+        }
+    }
+
+    // Whether a move is a load of a scan.
+    fn is_scan(&self, m: &Move) -> bool
+        ensures { (s : Shape) → result ≡ part_scans (part_by s 0 self.now) m.now m.now.act }
+    {
+        match m.act {
+            Act::Looks(_) => m.scan && self.track.is_scanning(),
+            _ => false,
+        }
+    }
+
+    // Whether a move passes the word at the cursor.
+    fn passes(&self, shape: Shape, m: &Move, found: Option<Known>) -> bool
+        requires { IsLookWord m.now.act }
+        ensures { result ≡ part_passes (part_by shape 0 self.now) m.now found m.now.act }
+    {
+        match m.act {
+            Act::Looks(look) => self.is_scan(m) && self.goes_on(shape, &look, found),
+            Act::Builds(build) => self.shortens(&build),
+            Act::Ticks(_) | Act::Shifts(_) => false,
+        }
+    }
+
+    // Whether a step that builds shortens the word at the cursor.
+    fn shortens(&self, build: &Build) -> bool
+        ensures { (s : Shape) (m : Move) (found : Option Known)
+            → result ≡ part_passes (part_by s 0 self.now) m found (Builds build.now) }
+    {
+        match *build {
+            Build::Shorten { at, i, .. } => self.has_masks() && self.is_at_cursor(at.version, i),
+            _ => false,
+        }
+    }
+
+    // Whether a load of a scan is at the cursor, and finds nothing of from-space.
+    fn goes_on(&self, shape: Shape, look: &Look, found: Option<Known>) -> bool
+        requires { IsWordOf look.now }
+        ensures { result ≡ (list_all is_some self.now.cycle.scan.masks
+            && cursor_at (part_by shape 0 self.now) (looked_at look.now) (looked_word look.now)
+            && not (part_meets (part_by shape 0 self.now) found)) }
+    {
+        if !self.has_masks() {
+            return false;
+        }
+        let (version, i) = word_looked_at(look);
+        self.is_at_cursor(version, u64::from(i)) && !self.meets(shape, found)
+    }
+
+    // Whether the caller has a mask of every caller.
+    fn has_masks(&self) -> bool
+        ensures { result ≡ list_all is_some self.now.cycle.scan.masks }
+    {
+        self.track.has_masks()
+    }
+
+    // Whether the cursor is at a word of a version.
+    fn is_at_cursor(&self, v: Version, i: u64) -> bool
+        ensures { (s : Shape) (q : ℕ) (at : Known) → at.version ≡ v
+            → result ≡ cursor_at (part_by s q self.now) at i }
+    {
+        let cursor = self.track.cursor();
+        match self.own.get((cursor / FIELDS) as usize) {
+            Some(known) => known.version.0 == v.0 && i == field_word(cursor % FIELDS),
+            None => false,
+        }
+    }
+
+    // What is found, published and let go.
+    fn work(&mut self, m: &Move, x: u64, found: Option<Known>)
+        requires { CanWork self.old m.now x found }
+        ensures { self.new ≡ hand_worked self.old m.now x found }
     {
         let fresh = publishes(&m.act, x);
         self.leave(m.let_go);
@@ -143,12 +379,21 @@ impl Hand {
         self.forget(m.let_go);
     }
 
-    /// The hand after a version is let go alone.
-    pub fn release(&mut self, let_go: Option<Known>)
-        ensures { self.new ≡ hand_letting self.old let_go }
+    // Whether the caller is bare after a step.
+    fn bare(&mut self, shape: Shape)
+        ensures { self.new ≡ hand_bared shape self.old }
     {
-        self.leave(let_go);
-        self.forget(let_go);
+        let clean = !self.holds_from(shape);
+        let bare = clean && (self.has_passed() || self.track.is_bare());
+        self.track.set_bare(bare);
+    }
+
+    // Whether the caller has all masks, and its scan has passed all its words.
+    fn has_passed(&self) -> bool
+        ensures { result ≡ (list_all is_some self.now.cycle.scan.masks
+            && nat_le (field_count * length self.now.hands.own) self.now.cycle.scan.cursor) }
+    {
+        self.has_masks() && self.own.len() as u64 <= self.track.cursor() / FIELDS
     }
 
     // A version that is let go leaves the held ones.
@@ -202,6 +447,50 @@ impl Hand {
         if let Some(known) = let_go {
             unname(&mut self.written, &known);
         }
+    }
+}
+
+// Whether a caller knows a version as from-space.
+fn knows_from(track: &Track, shape: Shape, v: Version) -> bool
+    ensures { result ≡ gives_from (slice_index_or track.now.scan.masks (owner_of shape v) None) (region_of shape v) }
+{
+    let owner = v.0 / (shape.regions * shape.versions);
+    let region = v.0 / shape.versions % shape.regions;
+    track.gives_from(owner, region)
+}
+
+// Whether it knows one of some versions so.
+fn knows_any_from(track: &Track, shape: Shape, list: &[Known]) -> bool
+    ensures { result ≡ list_any (λ k. gives_from
+        (slice_index_or track.now.scan.masks (owner_of shape k.version) None)
+        (region_of shape k.version)) list.now }
+{
+    list.iter()
+        .any(|known| knows_from(track, shape, known.version))
+}
+
+// The end of a chain that an act finds: of a load of a link that finds 0.
+fn end_found(act: &Act, found: u64) -> Option<End>
+    ensures { listed result ≡ found_end act.now found }
+{
+    match *act {
+        Act::Looks(Look::LoadLink { at, .. }) if found == 0 => Some(End {
+            name: at.name,
+            rank: at.rank,
+        }),
+        _ => None,
+    }
+}
+
+// The word of a version that is its field of this number: its link, or a reference.
+fn field_word(field: u64) -> u64
+    requires { field < 5 }
+    ensures { result ≡ word_of_field field }
+{
+    if field == 0 {
+        u64::from(LINK)
+    } else {
+        field + 1
     }
 }
 

@@ -18,14 +18,14 @@ impl Machine {
     /// Where memory runs out at a step, whose conditions all hold, those before it were answered, and nothing else was
     /// done.
     ///
-    /// Behind each published version its chain ends, after at most as many links as the heap has versions: until
-    /// regions are used again, no cycle is done.
+    /// Behind each published version its chain ends, after at most as many links as the heap has versions, once more for
+    /// each cycle that is done.
     pub fn apply_all(&mut self, steps: &[Step]) -> Result<(), Memory>
         ensures played { OnOk result (Plays self.old steps.now self.new) }
         ensures memory { OnErr result (Stops self.old steps.now self.new) }
         ensures leads { Leads any_store any_entry (core_of self.old) (core_of self.new) }
         ensures safe { IsSafe (site_of self.new) (core_of self.new) }
-        ensures ends { ChainsEnd self.new.shape (core_of self.new).heap 0 }
+        ensures ends { ChainsEnd self.new.shape (core_of self.new).heap }
         ensures site { site_of self.new ≡ site_of self.old }
     {
         let played = self.play(steps);
@@ -74,7 +74,7 @@ pub fn machine_after(
     ensures played { IfOk result (λ after. OnOk after.1 (PlaysFresh steps.now after.0)) }
     ensures memory { IfOk result (λ after. OnErr after.1 (StopsFresh steps.now after.0)) }
     ensures safe { IfOk result (λ after. IsSafe (site_of after.0) (core_of after.0)) }
-    ensures ends { IfOk result (λ after. ChainsEnd after.0.shape (core_of after.0).heap 0) }
+    ensures ends { IfOk result (λ after. ChainsEnd after.0.shape (core_of after.0).heap) }
     ensures led { IfOk result (λ after.
         ComesFromFresh any_store any_entry (site_of after.0) (core_of after.0)) }
     ensures shape { IfOk result (λ after. after.0.shape ≡ shape) }

@@ -30,6 +30,8 @@ pub(crate) struct Row {
     pub made: u64,
     /// How often it was freed.
     pub freed: u32,
+    /// Whether it is From, of a cycle that is done.
+    pub dead: bool,
 }
 
 /// A machine: the words of the Table, and what is known of versions, callers and seats. What is known of a version
@@ -45,6 +47,8 @@ pub struct Machine {
     pub(crate) known: Vec<Option<Known>>,
     /// What is counted of each region, those of all callers one behind another.
     pub(crate) rows: Vec<Row>,
+    /// How many cycles are done.
+    pub(crate) done: u32,
     pub(crate) chronicle: Chronicle,
     /// Of each caller, its draft, and what it may look into.
     pub(crate) hands: Vec<Hand>,
@@ -69,12 +73,11 @@ impl Machine {
     ghost use Rattle.hm_model.specs.Store.{contents_of, IsThere};
     ghost use Rattle.hm_model.specs.History.{store_of};
     ghost use Rattle.hm_moves.specs.Chain.{lookup};
-    ghost use Rattle.hm_moves.specs.Places.{IsFit};
     ghost use Rattle.hm_moves.specs.Acts.{next_version};
     ghost use Rattle.hm_moves.specs.After.{row_of_part};
     ghost use Rattle.hm_moves.specs.Allowed.{next_name, HasRoom, HasHand};
     ghost use Rattle.hm_core.specs.Stepping.{IsLookable, IsHeld};
-    ghost use Rattle.hm_core.specs.Running.{core_of, hand_at, index_of, own_part, site_of, IsSound};
+    ghost use Rattle.hm_core.specs.Running.{core_of, hand_at, index_of, own_part, site_of, IsSmall, IsSound};
     ghost use Rattle.hm_moves.specs.Safe.{IsSafe};
 
     /// The present plain store, in order of making.
@@ -137,7 +140,7 @@ impl Machine {
     // What is known of the version of a number.
     pub(crate) fn known(&self, v: Version) -> Option<Known>
         ensures known { result ≡ index_of self.now.known v.0 }
-        ensures fit { IfSome result (IsFit self.now.shape 0) }
+        ensures small { IfSome result IsSmall }
         ensures sound { IsSound self.now }
     {
         self.known.get(v.0 as usize).copied().flatten()
@@ -149,10 +152,10 @@ impl Machine {
         ensures sound { IsSound self.now }
     {
         let known = self.known.as_slice();
-        match word {
-            0 => None,
-            _ => known.get((word - 1) as usize).copied().flatten(),
+        if word == 0 {
+            return None;
         }
+        known.get((word - 1) as usize).copied().flatten()
     }
 
     // Whether a caller holds a version.

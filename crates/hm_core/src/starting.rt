@@ -5,7 +5,6 @@ ghost use Rattle.hm_model.specs.Effect.{new_contents as contents_of_new};
 ghost use Rattle.hm_model.specs.History.{AllStand, starting_count, starting_name as name_of_first};
 ghost use Rattle.hm_moves.specs.Places.{row_count};
 ghost use Rattle.hm_moves.specs.Acts.{listed};
-ghost use Rattle.hm_moves.specs.After.{nothing_written};
 ghost use Rattle.hm_moves.specs.Fresh.{all_known, starting_known};
 ghost use Rattle.hm_core.specs.Firsts.{IsFreshMachine, AddsSide, creates_of, first_rows, first_hands, first_seats};
 
@@ -44,6 +43,7 @@ impl Machine {
             words,
             known,
             rows,
+            done: 0,
             chronicle,
             hands,
             seats,
@@ -148,12 +148,14 @@ fn starting_rows(alloc: Global, shape: Shape, count: u32) -> Result<Vec<Row>, Al
         used: 0,
         made: 0,
         freed: 0,
+        dead: false,
     };
     let mut rows = vec![in alloc; bare; (shape.callers * shape.regions) as usize]?;
     rows[0] = Row {
         used: count,
         made: u64::from(count),
         freed: 0,
+        dead: false,
     };
     Ok(rows)
 }
@@ -169,9 +171,9 @@ fn starting_hands(
     ensures { IfOk result (λ hands. hands.items ≡ first_hands shape common firsts.now) }
 {
     let mut hands = Vec::new(alloc);
-    hands.push(Hand::new(alloc, shape.versions, common, firsts)?)?;
+    hands.push(Hand::new(alloc, shape, common, firsts)?)?;
     for _ in 1..shape.callers {
-        hands.push(Hand::new(alloc, shape.versions, common, &[])?)?;
+        hands.push(Hand::new(alloc, shape, common, &[])?)?;
     }
     Ok(hands)
 }

@@ -1,11 +1,14 @@
 //! Steps of the machine, and why one is refused.
+ghost use Rattle.std.specs.Prelude.{◌≡◌};
+
 use hm_model::Entry;
 use hm_shape::Version;
 
 /// What a step does. A version is given by its number.
 #[derive(Clone, Copy, Debug, PartialEq, Eq)]
 pub enum StepKind {
-    /// A load of word `i` of a version, from 1 to 15. `scan` tells a load of a scan, and has no effect yet.
+    /// A load of word `i` of a version, from 1 to 15. `scan` tells a load of a scan: it counts as one while the caller
+    /// has seen a First and has not replied to it, and as one of an object call otherwise.
     LoadField {
         v: Version,
         i: u32,
@@ -39,6 +42,20 @@ pub enum StepKind {
     Meet {
         other: Other,
     },
+}
+
+impl StepKind {
+    ghost use Rattle.hm_core.specs.Stepping.{scan_of};
+
+    // Whether it is given as a load of a scan.
+    pub(crate) fn is_scan(&self) -> bool
+        ensures { result ≡ scan_of self.now }
+    {
+        match *self {
+            StepKind::LoadField { scan, .. } | StepKind::LoadLink { scan, .. } => scan,
+            _ => false,
+        }
+    }
 }
 
 /// The seat that a caller meets.

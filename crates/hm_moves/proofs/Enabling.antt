@@ -5,6 +5,17 @@ use Rattle.hm_moves.proofs.Words.{LinkStore, Move, AreKnown, IsKnownField, IsGiv
 use Rattle.hm_moves.proofs.Histories.{come_now}
 use Rattle.hm_moves.proofs.Heaps.{known_there}
 use Rattle.hm_moves.proofs.Held.{some_more}
+use Rattle.std.proofs.Common.{◌≡◌, ◌∙◌, ◌&&◌, true, ap, refl}
+use Rattle.hm_shape.specs.declared.reply.ReplyKind.{ReplyKind}
+use Rattle.hm_shape.specs.declared.reply.ReplyKind.TheVariants.{Joined, Clean, Dirty}
+use Rattle.hm_shape.specs.declared.stage.Phase.{Phase}
+use Rattle.hm_shape.specs.declared.stage.Phase.TheVariants.{Idle, Join, First, Second}
+use Rattle.hm_moves.specs.declared.moving.Tick.{Tick}
+use Rattle.hm_moves.specs.declared.moving.Tick.TheVariants.{LoadStage, MoveStage, LoadReply, StoreReply}
+use Rattle.hm_moves.specs.Cycles.{is_first, is_open, is_scanning}
+use Rattle.hm_moves.specs.Allowed.{MayReply, MayTick}
+use Rattle.hm_moves.proofs.Words.{HoldsClean, IsLaterThan, Shorten, Ticks, Shifts}
+use Rattle.hm_moves.proofs.Clean.{bare_clean}
 
 -- what is known by one reading is known by a wider one
 module _ (known wider : Name → Type 0) (f : (n : Name) → known n → wider n) where
@@ -55,8 +66,37 @@ module _ (known wider : Name → Type 0) (f : (n : Name) → known n → wider n
       built = h.built;
     }
 
-    module _ (make may : Entry → Type 0) (g : (e : Entry) → make e → may e) where
-      pub take_wider : (act : Act) → MayTake known make p act → MayTake wider may p act
+    module _ (make may : Entry → Type 0) (g : (e : Entry) → make e → may e) (clean truly : Type 0)
+        (c : is_scanning p ≡ true → clean → truly) (later : Known → ℕ → Known → Type 0) where
+      -- no call shortens yet
+      abbrev none : Known → ℕ → Known → Type 0
+      none at i target = ⊥
+
+      reply_wider : (phase : Phase) (kind : ReplyKind) → p.cycle.clock.stage.phase ≡ phase → is_open p ≡ true
+          → MayReply known make clean none p phase kind → MayReply wider may truly later p phase kind
+      reply_wider Idle kind at opened h = absurd h
+      reply_wider Join Joined at opened h = h
+      reply_wider Join Clean at opened h = absurd h
+      reply_wider Join Dirty at opened h = absurd h
+      reply_wider First Joined at opened h = absurd h
+      reply_wider First Clean at opened h =
+          (h.0, c (ap (λ (f : Phase). is_first f && is_open p) at ∙ opened) h.1)
+      reply_wider First Dirty at opened h = absurd h
+      reply_wider Second Joined at opened h = absurd h
+      reply_wider Second Clean at opened h = h
+      reply_wider Second Dirty at opened h = h
+
+      tick_wider : (t : Tick) → MayTick known make clean none p t → MayTick wider may truly later p t
+      tick_wider LoadStage h = h
+      tick_wider (MoveStage from to) h = h
+      tick_wider (LoadReply of) h = h
+      tick_wider (StoreReply reply) h = record {
+        number = h.number;
+        open_yet = h.open_yet;
+        kind = reply_wider p.cycle.clock.stage.phase reply.kind refl h.open_yet h.kind;
+      }
+
+      pub take_wider : (act : Act) → MayTake known make clean none p act → MayTake wider may truly later p act
       take_wider (Looks l) h = record {
         look = h.look;
         word = h.word;
@@ -72,14 +112,18 @@ module _ (known wider : Name → Type 0) (f : (n : Name) → known n → wider n
       take_wider (Builds (LinkStore at k o)) h = record {
         look = h.look;
         later = h.later;
+        copies = h.copies;
         turns = turns_by_wider at k.contents o h.turns;
         may = some_more make may g o h.may;
       }
+      take_wider (Builds (Shorten at i target)) h = absurd h.later
+      take_wider (Ticks t) h = tick_wider t h
+      take_wider (Shifts f) h = h
 
 module _ {U : Type 0} (lawful : U → PlainStore → Type 0) (allowed : U → PlainStore → Entry → Type 0) where
   own_lawful : (c : Core U) (id place : ℕ) (v : View U) (p : Part U) (m : Move)
       → Good lawful allowed p.site c → Carries c.views id place v p → Enabled lawful allowed v.seen p m
-      → IsLawfulMove lawful allowed c.heap.history p m
+      → IsLawfulMove lawful allowed c.heap p m
   own_lawful c id place v p m good at may =
       let mine = good.parts id place v p at in
       let store : PlainStore = store_of c.heap.history in
@@ -91,7 +135,10 @@ module _ {U : Type 0} (lawful : U → PlainStore → Type 0) (allowed : U → Pl
       (good.seen id v at.seat) mine.calls good.heap.history made stands).entry in
       record {
         act = take_wider (IsKnownName p) (IsThere store)
-            (known_there lawful allowed c.heap v.seen p good.heap mine) p make now g m.act may.act;
+            (known_there lawful allowed c.heap v.seen p good.heap mine) p make now g (p.cycle.scan.bare ≡ true)
+            (HoldsClean c.heap.words p)
+            (bare_clean lawful allowed c id place v p good at)
+            (IsLaterThan p.site.shape c.heap) m.act may.act;
         holds = may.holds;
         let_go = may.let_go;
       }
@@ -99,7 +146,7 @@ module _ {U : Type 0} (lawful : U → PlainStore → Type 0) (allowed : U → Pl
   -- an enabled move is a lawful one
   pub enabled_lawful : (g : Site U) (c : Core U) (id place : ℕ) (v : View U) (p : Part U) (m : Move)
       → Good lawful allowed g c → Carries c.views id place v p → Enabled lawful allowed v.seen p m
-      → IsLawfulMove lawful allowed c.heap.history p m
+      → IsLawfulMove lawful allowed c.heap p m
   enabled_lawful g c id place v p m good at may =
       own_lawful c id place v p m
       (subst (λ (z : Site U). Good lawful allowed z c) (sym (good.parts id place v p at).site) good) at may

@@ -4,7 +4,10 @@ use Rattle.hm_moves.proofs.Words.{Shape, naming_word, Known, Heap, row_count, to
 use Rattle.hm_moves.specs.Ends.{ChainsEnd, EndsAfter, Links}
 use Rattle.hm_moves.proofs.Placed.{published_once, made_small}
 
-module _ (s : Shape) (h : Heap) (chains : KeepsChains s h) (done : ℕ) (ranks : KeepsRanks s h done) where
+module _ (s : Shape) (h : Heap) (chains : KeepsChains s h) (ranks : KeepsRanks s h) where
+  abbrev done : ℕ
+  done = h.places.done
+
   -- the published version that a link names has a greater rank
   rises : (k next : Known) → IsPublished h.index k → IsPublished h.index next
       → link_of s h.words k ≡ naming_word (Some next.version) → k.rank < next.rank
@@ -53,7 +56,7 @@ module _ (s : Shape) (h : Heap) (chains : KeepsChains s h) (done : ℕ) (ranks :
             },
           )
 
-  pub chains_end : ChainsEnd s h done
+  pub chains_end : ChainsEnd s h
   chains_end = record {
     ends = λ k is. ends_from (rank_limit s done + 1) k is (omega arith);
     few = λ k n is end.

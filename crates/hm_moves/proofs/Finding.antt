@@ -4,7 +4,8 @@ use Rattle.hm_moves.proofs.Words.{word_at, Name, Stored, Changed, Entry, Create,
 use Rattle.hm_moves.proofs.Words.{Refers, IsLinked, reference_at, Heap, next_version, word_of, entry_of, publishes, finds, want_of, looked_at, index_with, HasRoom, MayLookInto, Reads, Turns, MayTake, TurnsBy, HeapIsGood, PartIsGood, IsReference, IsLink, Found}
 use Rattle.hm_moves.proofs.Histories.{IsBy}
 use Rattle.hm_moves.proofs.Placed.{published_here, published_more}
-use Rattle.hm_moves.proofs.Heaps.{look_published, fresh_none}
+use Rattle.hm_moves.proofs.Words.{Shorten, Ticks, Shifts}
+use Rattle.hm_moves.proofs.Heaps.{IsWork, look_published, fresh_none}
 use Rattle.hm_moves.proofs.Held.{zero_some, some_more}
 
 -- a word that refers names the version that is looked up
@@ -66,9 +67,10 @@ module _ (index : Index) where
 
 module _ {U : Type 0} (lawful : U → PlainStore → Type 0) (allowed : U → PlainStore → Entry → Type 0)
     (h : Heap) (seen : List Entry) (p : Part U) (good : HeapIsGood lawful allowed p.site h)
-    (mine : PartIsGood p.site h seen p) (known : Name → Type 0) (make : Entry → Type 0) where
+    (mine : PartIsGood p.site h seen p) (known : Name → Type 0) (make : Entry → Type 0) (clean : Type 0)
+    (later : Known → ℕ → Known → Type 0) where
   abbrev May : Act → Type 0
-  May act = MayTake known make p act
+  May act = MayTake known make clean later p act
 
   -- the entry is the caller's
   pub entry_by : (act : Act) → May act → (x : ℕ) → IsBy p.number (entry_of p.number act x)
@@ -77,6 +79,9 @@ module _ {U : Type 0} (lawful : U → PlainStore → Type 0) (allowed : U → Pl
       (want_of l) may.reads)
   entry_by (Builds (StoreOwn i word)) may x = tt
   entry_by (Builds (Publish k)) may x = refl
+  entry_by (Ticks t) may x = tt
+  entry_by (Shifts f) may x = tt
+  entry_by (Builds (Shorten at i target)) may x = tt
   entry_by (Builds (LinkStore at k o)) may x = zero_some (λ e. caller_of e ≡ p.number) o x
       (turns_by_some known p at k o may.turns)
 
@@ -86,6 +91,9 @@ module _ {U : Type 0} (lawful : U → PlainStore → Type 0) (allowed : U → Pl
   next_now (Looks l) may x = tt
   next_now (Builds (StoreOwn i word)) may x = tt
   next_now (Builds (Publish k)) may x = (may.first.version, may.first.room)
+  next_now (Ticks t) may x = tt
+  next_now (Shifts f) may x = tt
+  next_now (Builds (Shorten at i target)) may x = tt
   next_now (Builds (LinkStore at k o)) may zero = (may.later.version, may.later.room)
   next_now (Builds (LinkStore at k o)) may (suc n) = tt
 
@@ -105,15 +113,18 @@ module _ {U : Type 0} (lawful : U → PlainStore → Type 0) (allowed : U → Pl
       (subst (IsLinked h.index (store_of h.history) at) (sym is) (good.chained.link at (look at l)))
 
   -- what is found is what is known of it
-  pub found_now : (act : Act) → May act → (x : ℕ) → x ≡ slice_index h.words (word_of p act)
+  pub found_now : (act : Act) → IsWork act → May act → (x : ℕ) → x ≡ slice_index h.words (word_of p act)
       → Found act x (finds h.index act x) × IfSome (finds h.index act x) (IsPublished h.index)
-  found_now (Looks (LoadStamp at)) may x is = ((is ∙ (good.contents at (look at may.look)).stamp, refl), tt)
-  found_now (Looks (LoadReference at i)) may x is = refers_found h.index x (reference_at at.contents i)
+  found_now (Looks (LoadStamp at)) work may x is = ((is ∙ (good.contents at (look at may.look)).stamp, refl), tt)
+  found_now (Looks (LoadReference at i)) work may x is = refers_found h.index x (reference_at at.contents i)
       (subst (λ (w : ℕ). Refers h.index w (reference_at at.contents i)) (sym is)
       ((good.contents at (look at may.look)).refs i may.word))
-  found_now (Looks (LoadNumber at i)) may x is =
+  found_now (Looks (LoadNumber at i)) work may x is =
       ((is ∙ (good.contents at (look at may.look)).numbers i may.word, refl), tt)
-  found_now (Looks (LoadLink at want)) may x is = link_now at may.look x is
-  found_now (Builds (StoreOwn i word)) may x is = (refl, tt)
-  found_now (Builds (Publish k)) may x is = (refl, tt)
-  found_now (Builds (LinkStore at k o)) may x is = link_now at may.look x is
+  found_now (Looks (LoadLink at want)) work may x is = link_now at may.look x is
+  found_now (Builds (StoreOwn i word)) work may x is = (refl, tt)
+  found_now (Builds (Publish k)) work may x is = (refl, tt)
+  found_now (Ticks t) work may x is = absurd work
+  found_now (Shifts f) work may x is = absurd work
+  found_now (Builds (Shorten at i target)) work may x is = (refl, tt)
+  found_now (Builds (LinkStore at k o)) work may x is = link_now at may.look x is

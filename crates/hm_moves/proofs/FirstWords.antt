@@ -1,9 +1,11 @@
 -- The words of a fresh Table are laid one after another, and say what the starting objects hold.
 use Rattle.std.proofs.Common.{◌≡◌, ◌<◌, ◌≤◌, ◌+◌, ◌-◌, ◌*◌, ℕ, zero, suc, List, [], ◌∷◌, ◌++◌, length, map, get_or, replicate, Option, Some, None, IfSome, All, refl, sym, ap, ◌∙◌, subst, arith, append-nil, append_assoc}
 use Rattle.hm_moves.proofs.Words.{slice_get, flat_map, mul-lt, length-append, length-map, length-replicate, get_or_append_left, get_or-append-add, get_or-map, get_or-replicate, map-append, All-nil, All-cons, All-append, All-get_or, flat_map-append, get_or_from_slice_get, slice_get-get_or, slice_get_within, Shape, version_count, reply_at, roles_at, word_at, word_count, Name}
-use Rattle.hm_moves.proofs.Words.{Start, Refs, Numbers, IsSized, new_contents, side_names, starting_count, starting_name, IsSizedStart, Known, IsPublished, Refers, words_at, reference_at, only_to, row_count, starting_known, side_known, common_known, all_known, fresh_index, AreFirst, LaysSide, count_word, first_words, head_words, known_words, laid_words}
+use Rattle.hm_moves.proofs.Words.{Start, Refs, Numbers, IsSized, new_contents, side_names, starting_count, starting_name, IsSizedStart, Known, IsPublished, Refers, words_at, reference_at, row_count, starting_known, side_known, common_known, all_known, fresh_index, AreFirst, LaysSide, count_word, first_words, head_words, known_words, laid_words}
 use Rattle.hm_moves.proofs.Fresh.{AreNumbered, numbered_at, numbered, many, known_at}
 use Rattle.hm_moves.proofs.Placed.{versions_some}
+use Rattle.hm_shape.specs.Words.{roles_word}
+use Rattle.hm_moves.specs.Fresh.{fresh_roles}
 
 -- all side objects are laid, from number k on
 pub record AreLaid (before : List ℕ) (k : ℕ) (sides : List (Option Numbers)) (words after : List ℕ) : Type 0 where
@@ -136,7 +138,7 @@ module _ (s : Shape) (start : Start) (sized : IsSizedStart start) (room : starti
     zeros = replicate (s.callers + 1) 0
 
     abbrev roles : List ℕ
-    roles = replicate s.callers (only_to 0)
+    roles = replicate s.callers (roles_word fresh_roles)
 
     rows : 0 < row_count s
     rows = mul-lt 0 0 s.callers s.regions (omega (arith, s.callers_fit)) (omega (arith, s.regions_fit))
@@ -151,7 +153,7 @@ module _ (s : Shape) (start : Start) (sized : IsSizedStart start) (room : starti
     head_wide =
         let a = length-append zeros roles in
         let b = zeros_wide in
-        let c : length roles ≡ s.callers = length-replicate s.callers (only_to 0) in
+        let c : length roles ≡ s.callers = length-replicate s.callers (roles_word fresh_roles) in
         omega arith
 
     pub laid_fits : length (laid_words s start) ≤ word_count s
@@ -179,15 +181,15 @@ module _ (s : Shape) (start : Start) (sized : IsSizedStart start) (room : starti
         ∙ (get_or_append_left zeros (roles ++ (laid ++ rest)) 0 i (omega arith)
         ∙ get_or-replicate (s.callers + 1) i 0 0 (omega arith))
 
-    roles_word : (q : ℕ) → q < s.callers → get_or (first_words s start) (roles_at s q) 0 ≡ only_to 0
-    roles_word q low =
+    roles_there : (q : ℕ) → q < s.callers → get_or (first_words s start) (roles_at s q) 0 ≡ roles_word fresh_roles
+    roles_there q low =
         let wide = zeros_wide in
-        let long : length roles ≡ s.callers = length-replicate s.callers (only_to 0) in
+        let long : length roles ≡ s.callers = length-replicate s.callers (roles_word fresh_roles) in
         let at : roles_at s q ≡ length zeros + q = omega arith in
         let a = parts in
         let b = get_or-append-add zeros (roles ++ (laid ++ rest)) q 0 in
         let c = get_or_append_left roles (laid ++ rest) 0 q (omega arith) in
-        let d = get_or-replicate s.callers q (only_to 0) 0 low in cc
+        let d = get_or-replicate s.callers q (roles_word fresh_roles) 0 low in cc
 
     first_word : (k : Known) (j : ℕ) → IsPublished (fresh_index start) k → j < 16
         → words_at s (first_words s start) k j ≡ get_or (known_words k) j 0
@@ -250,7 +252,7 @@ module _ (s : Shape) (start : Start) (sized : IsSizedStart start) (room : starti
       head = record {
         stage = zero_word 0 (omega arith);
         replies = λ q low. zero_word (reply_at q) (omega arith);
-        roles = roles_word;
+        roles = roles_there;
       };
       contents = λ k there.
           let at = known_at start sized k there in

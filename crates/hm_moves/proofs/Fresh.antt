@@ -1,13 +1,10 @@
--- A fresh machine is good.
-use Rattle.std.proofs.Common.{◌≡◌, ◌≢◌, ◌<◌, ◌≤◌, ◌+◌, ◌*◌, ◌==◌, ℕ, zero, suc, false, cond, is_some, eq-eqb, ne_eqb, List, [], ◌∷◌, ◌++◌, map, length, replicate, All, Option, Some, None, IfSome, Contains, if◌then◌else◌, refl, sym, ap, ◌∙◌, subst, arith, ⊎_elim, append-nil, append_assoc, IsSome}
-use Rattle.hm_moves.proofs.Words.{length-append, map-append, nat_tests, common_steps, slice_get, list_any, mul-lt, get_or_from_slice_get, slice_get_past, slice_get_within, slice_get-get_or, All-nil, All-cons, All-head, All-tail, ℕ_discrete, dite, Shape, Version, IsAt, word_count, Name, Contents, Start, Entry, Create, Numbers, IsSized, PlainStore, contents_of, caller_of}
-use Rattle.hm_moves.proofs.Words.{new_contents, effect_of, store_after, store_of, common_name, opening_of, side_count, side_entries, side_names, starting_count, starting_name, IsSizedStart, is_same-self, is_same-other, there_contents, store_after-append, Known, Site, Index, IsPublished, AreTrue, AreChained, IsLinked}
-use Rattle.hm_moves.proofs.Words.{link_of, Heap, ArePlaced, row_count, total, AreRanked, HasHead, IsOwn, Places, Begins, AreBelow, HeapIsGood, PartIsGood, Core, Good, AreApart, starting_known, side_known, common_known, all_known, fresh_index, fresh_used, fresh_part, IsFreshCore, fresh_places}
+-- The versions of a fresh machine.
+use Rattle.std.proofs.Common.{◌≡◌, ◌≢◌, ◌<◌, ◌≤◌, ◌+◌, ◌*◌, ℕ, zero, suc, false, cond, is_some, eq-eqb, ne_eqb, List, [], ◌∷◌, ◌++◌, map, length, replicate, All, Option, Some, None, IfSome, Contains, refl, sym, ap, ◌∙◌, subst, arith, append-nil, append_assoc, IsSome}
+use Rattle.hm_moves.proofs.Words.{length-append, map-append, common_steps, slice_get, mul-lt, get_or_from_slice_get, slice_get_past, slice_get_within, slice_get-get_or, All-head, All-tail, Shape, Name, Contents, Start, Entry, Create, Numbers, IsSized, PlainStore, contents_of}
+use Rattle.hm_moves.proofs.Words.{new_contents, effect_of, store_after, store_of, common_name, opening_of, side_count, side_entries, side_names, starting_count, starting_name, IsSizedStart, is_same-self, is_same-other, there_contents, store_after-append, Known, IsPublished, AreChained, IsLinked}
+use Rattle.hm_moves.proofs.Words.{link_of, ArePlaced, row_count, total, AreRanked, starting_known, side_known, common_known, all_known, fresh_index, fresh_used, fresh_places}
 use Rattle.std.proofs.lemmas.List.Sums.{sum_by-cons}
-use Rattle.hm_model.proofs.Openings.{lawful_opening}
-use Rattle.hm_moves.proofs.Histories.{below-append, begins_self}
-use Rattle.hm_moves.proofs.Placed.{versions_some, published_once, place_small, same_row}
-use Rattle.hm_moves.proofs.Held.{none_written, contains_first}
+use Rattle.hm_moves.proofs.Placed.{versions_some, published_once, place_small}
 
 -- versions are numbered from k on, each the first of its object
 pub record IsNumbered (k : ℕ) (m : Known) : Type 0 where
@@ -91,7 +88,7 @@ slice_get_some [] i low = absurd (omega arith)
 slice_get_some (x ∷ xs) zero low = refl
 slice_get_some (x ∷ xs) (suc i) low = slice_get_some xs i (omega arith)
 
-slice_get_contains : (xs : List Known) (i : ℕ) (m : Known) → slice_get xs i ≡ Some m → Contains xs m
+pub slice_get_contains : (xs : List Known) (i : ℕ) (m : Known) → slice_get xs i ≡ Some m → Contains xs m
 slice_get_contains xs i m h = (i, slice_get_within xs i m h, get_or_from_slice_get xs i m m h)
 
 get_last : (xs : List Known) (m : Known) → slice_get (xs ++ m ∷ []) (length xs) ≡ Some m
@@ -127,7 +124,7 @@ module _ (start : Start) (sized : IsSizedStart start) where
   pub known_at : (k : Known) → IsPublished (fresh_index start) k → IsNumbered k.version.0 k
   known_at k there = grind (arith, numbered_at 0 (all_known start) k.version.0 k numbered there)
 
-  present : (k : Known) → IsPublished (fresh_index start) k
+  pub present : (k : Known) → IsPublished (fresh_index start) k
       → contents_of (store_of (opening_of start)) k.name ≡ Some k.contents
   present k there = ap (λ (s : PlainStore). contents_of s k.name) store_is
       ∙ stored_at 0 (all_known start) k.version.0 k numbered there
@@ -156,13 +153,19 @@ module _ (start : Start) (sized : IsSizedStart start) where
   total_some zero h = absurd (omega arith)
   total_some (suc n) h = grind (arith, used_first n, total_some n)
 
+  -- each stands at its number
+  numbered_there : (v : ℕ) (k : Known) → fresh_index start v ≡ Some k → k.version.0 ≡ v
+  numbered_there v k is = ap (λ (z : Known). z.version.0) (numbered_at 0 (all_known start) v k numbered is).is ∙ omega arith
+
   -- the versions lie in the first row
   module _ (s : Shape) (room : starting_count start ≤ s.versions) where
     rows : 0 < row_count s
     rows = mul-lt 0 0 s.callers s.regions (omega (arith, s.callers_fit)) (omega (arith, s.regions_fit))
 
-    placed : ArePlaced s (fresh_index start) (fresh_used start)
+    pub placed : ArePlaced s (fresh_index start) (λ row. false) (fresh_used start)
     placed = record {
+      numbered = λ v k is. numbered_there v k is;
+      empty = λ row i below low no. absurd (cc);
       fits = λ k there.
           let low = slice_get_within (all_known start) k.version.0 k there in
           let long = many in
@@ -170,13 +173,13 @@ module _ (start : Start) (sized : IsSizedStart start) where
       unused = λ row i below low past. slice_get_past (all_known start) (row * s.versions + i)
           (let long = many in let more = versions_some row s.versions in grind (arith, used_first row));
       filled = λ row. grind (arith, used_first row, used_other row);
-      taken = λ row i below low. let long = many in
+      taken = λ row i below alive low. let long = many in
           grind (arith, used_first row, used_other row, slice_get_some (all_known start) (row * s.versions + i));
       sized = λ k there. let h = known_at k there in
           let stamp = h.stamp in record { stamp = omega arith; contents = h.sized };
     }
 
-    ranked : AreRanked s (fresh_index start) (fresh_places start) 0
+    pub ranked : AreRanked s (fresh_index start) (fresh_places s start)
     ranked = record {
       ranks = λ k there.
           let is : k.rank ≡ 0 = ap (λ (z : Known). z.rank) (known_at k there).is in
@@ -186,7 +189,7 @@ module _ (start : Start) (sized : IsSizedStart start) where
     }
 
     -- each is the last of its object, with the present contents
-    chained : (words : List ℕ) → ((k : Known) → IsPublished (fresh_index start) k → link_of s words k ≡ 0)
+    pub chained : (words : List ℕ) → ((k : Known) → IsPublished (fresh_index start) k → link_of s words k ≡ 0)
         → AreChained s words (fresh_index start) (store_of (opening_of start))
     chained words links = record {
       there = λ k is. there_contents (store_of (opening_of start)) k.name k.contents (present k is);
@@ -201,187 +204,3 @@ module _ (start : Start) (sized : IsSizedStart start) where
           let count : m.name.count ≡ k.name.count = ap (λ (n : Name). n.count) same in
           published_once (fresh_index start) k m a b (omega arith);
     }
-
-sides_below : (n k : ℕ) (sides : List (Option Numbers)) → 0 < n → AreBelow n (side_entries k sides)
-sides_below n k [] low = All-nil (λ e. caller_of e < n)
-sides_below n k (None ∷ sides) low = sides_below n k sides low
-sides_below n k (Some numbers ∷ sides) low =
-    All-cons (λ e. caller_of e < n) (Create 0 (starting_name k) (replicate 4 None) numbers)
-    (side_entries (k + 1) sides) low (sides_below n (k + 1) sides low)
-
-opening_below : (n : ℕ) (start : Start) → 0 < n → AreBelow n (opening_of start)
-opening_below n start low =
-    let e : Entry = Create 0 (common_name start) (side_names 0 start.sides) start.numbers in
-    below-append n (side_entries 0 start.sides) (e ∷ []) (sides_below n 0 start.sides low)
-    (All-cons (λ e. caller_of e < n) e [] low (All-nil (λ e. caller_of e < n)))
-
-module _ {U : Type 0} (lawful : U → PlainStore → Type 0) (allowed : U → PlainStore → Entry → Type 0)
-    (g : Site U)
-    (sized : IsSizedStart g.start) (room : starting_count g.start ≤ g.shape.versions) where
-  module _ (words : List ℕ) (wide : length words ≡ word_count g.shape)
-      (head : HasHead g.shape (fresh_places g.start).to words)
-      (contents : AreTrue g.shape words (fresh_index g.start))
-      (links : (k : Known) → IsPublished (fresh_index g.start) k → link_of g.shape words k ≡ 0) where
-    abbrev heap : Heap
-    heap = record {
-      words = words;
-      index = fresh_index g.start;
-      places = fresh_places g.start;
-      history = opening_of g.start;
-    }
-
-    heap_good : lawful g.usage (store_of (opening_of g.start)) → HeapIsGood lawful allowed g heap
-    heap_good now = record {
-      wide = wide;
-      head = head;
-      placed = placed g.start sized g.shape room;
-      ranked = ranked g.start sized g.shape room;
-      contents = contents;
-      chained = chained g.start sized g.shape room words links;
-      history = lawful_opening (lawful g.usage) (allowed g.usage) g.start sized now;
-      callers = opening_below g.shape.callers g.start (omega (arith, g.shape.callers_fit));
-    }
-
-    row_used : (q : ℕ) → (if q == 0 then starting_count g.start else 0) ≡ fresh_used g.start
-        (q * g.shape.regions + 0)
-    row_used q =
-        let more = mul-lt 0 0 q g.shape.regions in let fit = g.shape.regions_fit in
-        grind (
-          arith,
-          nat_tests,
-          common_steps,
-          used_first g.start sized (q * g.shape.regions + 0),
-          used_other g.start sized (q * g.shape.regions + 0),
-        )
-
-    -- caller 0 has published all
-    abbrev own_list : ℕ → List Known
-    own_list q = if q == 0 then all_known g.start else []
-
-    first_place : (k : Known) → IsPublished (fresh_index g.start) k → IsAt g.shape k.version 0 0 k.version.0
-    first_place k there =
-        let low = slice_get_within (all_known g.start) k.version.0 k there in
-        let long = many g.start sized in
-        record {
-          number = λ i. record { 0 = at i };
-          owner_fits = omega (arith, g.shape.callers_fit);
-          region_fits = omega (arith, g.shape.regions_fit);
-          place_fits = omega arith;
-        }
-      where
-        at : k.version.0 ≡ (0 * g.shape.regions + 0) * g.shape.versions + k.version.0
-        at = omega arith
-
-    own_listed : (q : ℕ) (k : Known) → Contains (own_list q) k → IsOwn g.shape q (fresh_index g.start) k
-    own_listed q k there = dite (ℕ_discrete q 0)
-        (λ e. let c : Contains (all_known g.start) k = rw (eq-eqb q 0 e) at there in
-        let is = listed_published g.start sized k c in
-        record {
-          published = is;
-          region = 0;
-          place = k.version.0;
-          at = subst (λ (n : ℕ). IsAt g.shape k.version n 0 k.version.0) (sym e) (first_place k is);
-        })
-        (λ ne. let c : Contains [] k = rw (ne_eqb q 0 ne) at there in let low = c.1 in absurd (omega arith))
-
-    numbered_apart : (k : ℕ) (ms : List Known) → AreNumbered k ms → AreApart ms
-    numbered_apart k [] h = tt
-    numbered_apart k (m ∷ ms) h = (
-      none_of m.version.0 (k + 1) ms h.1
-          (let is : m.version.0 ≡ k = ap (λ (z : Known). z.version.0) h.0.is in omega arith),
-      numbered_apart (k + 1) ms h.1,
-    )
-      where
-        none_of : (n j : ℕ) (l : List Known) → AreNumbered j l → n < j
-            → list_any (λ (z : Known). z.version.0 == n) l ≡ false
-        none_of n j [] e low = refl
-        none_of n j (x ∷ xs) e low =
-            let is : x.version.0 ≡ j = ap (λ (z : Known). z.version.0) e.0.is in
-            rw (ne_eqb x.version.0 n (λ z. omega arith)) (none_of n (j + 1) xs e.1 (omega arith))
-
-    own_apart : (q : ℕ) → AreApart (own_list q)
-    own_apart q = grind (arith, common_steps, numbered_apart 0 (all_known g.start) (numbered g.start sized))
-
-    -- a version of another row than the first is not there
-    first_row : (q region place : ℕ) (k : Known) → IsPublished (fresh_index g.start) k
-        → IsAt g.shape k.version q region place → q ≢ 0 → ⊥
-    first_row q region place k there at ne =
-        let low = slice_get_within (all_known g.start) k.version.0 k there in
-        let long = many g.start sized in
-        let number : k.version.0 ≡ (q * g.shape.regions + region) * g.shape.versions + place =
-        ap (λ (v : Version). v.0) at.number in
-        let row : 0 < q * g.shape.regions =
-        mul-lt 0 0 q g.shape.regions (omega arith) (omega (arith, g.shape.regions_fit)) in
-        let same : 0 * g.shape.versions + k.version.0 ≡ (q * g.shape.regions + region) * g.shape.versions +
-        place =
-        omega arith in
-        let zero_row : 0 ≡ q * g.shape.regions + region =
-        same_row 0 (q * g.shape.regions + region) g.shape.versions k.version.0 place (omega arith)
-        at.place_fits same in
-        omega arith
-
-    own_all : (q : ℕ) (k : Known) → IsOwn g.shape q (fresh_index g.start) k → Contains (own_list q) k
-    own_all q k own = grind (
-      arith,
-      nat_tests,
-      slice_get_contains (all_known g.start) k.version.0 k own.published,
-      first_row q own.region own.place k own.published own.at,
-    )
-
-    part_good : (q : ℕ) → q < g.shape.callers → PartIsGood g heap (opening_of g.start) (fresh_part g q)
-    part_good q low = record {
-      site = refl;
-      number = low;
-      draft = record {
-        region = omega (arith, g.shape.regions_fit);
-        to = refl;
-        used = row_used q;
-        wide = refl;
-        written = λ left j w is. absurd (none_written j w is);
-        named = λ j w n is. absurd (none_written j w is);
-      };
-      hands = record {
-        held = λ k there. ⊎_elim
-            (λ (e : common_known g.start ≡ k).
-            subst (IsPublished (fresh_index g.start)) e (common_published g.start sized))
-            (λ (c : Contains [] k). let none = c.1 in absurd (omega arith))
-            (contains_first k (common_known g.start) [] there);
-        own = own_listed q;
-        all = own_all q;
-        once = own_apart q;
-      };
-      calls = record { all = refl; seen = refl; opened = begins_self (opening_of g.start) };
-    }
-
-  -- a fresh machine is good
-  pub good_fresh : (c : Core U) → IsFreshCore g c → lawful g.usage (store_of (opening_of g.start))
-      → Good lawful allowed g c
-  good_fresh c fresh now =
-      let words : List ℕ = c.heap.words in
-      let index = fresh.heap.index in
-      let contents : AreTrue g.shape words (fresh_index g.start) =
-      subst (AreTrue g.shape words) index fresh.heap.contents in
-      let links : (k : Known) → IsPublished (fresh_index g.start) k → link_of g.shape words k ≡ 0 =
-      subst (λ (i : Index). (k : Known) → IsPublished i k → link_of g.shape words k ≡ 0) index
-      fresh.heap.links in
-      let head : HasHead g.shape (fresh_places g.start).to words =
-      subst (λ (z : Places). HasHead g.shape z.to words) fresh.heap.places fresh.heap.head in
-      let same : heap words fresh.heap.wide head contents links ≡ c.heap = λ i. record {
-        words = words;
-        index = sym index i;
-        places = sym fresh.heap.places i;
-        history = sym fresh.heap.history i;
-      } in
-      record {
-        heap = subst (HeapIsGood lawful allowed g) same (heap_good words fresh.heap.wide head contents links now);
-        seen = λ j v there. subst (λ (l : List Entry). Begins l c.heap.history) (sym (fresh.seen j v there))
-            (subst (Begins (opening_of g.start)) (sym fresh.heap.history) (begins_self (opening_of g.start)));
-        parts = λ j k v p at.
-            let q = fresh.parts j k v p at in
-            subst (PartIsGood g c.heap v.seen) (sym q.1)
-            (subst (λ (l : List Entry). PartIsGood g c.heap l (fresh_part g p.number))
-            (sym (fresh.seen j v at.seat))
-            (subst (λ (h : Heap). PartIsGood g h (opening_of g.start) (fresh_part g p.number)) same
-            (part_good words fresh.heap.wide head contents links p.number q.0)));
-        apart = fresh.apart;
-      }

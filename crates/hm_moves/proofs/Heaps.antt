@@ -1,14 +1,32 @@
 -- A move leaves a good heap.
-use Rattle.std.proofs.Common.{◌≡◌, ◌≢◌, ◌<◌, ◌+◌, ◌*◌, ℕ, zero, suc, List, [], ◌∷◌, ◌++◌, set, slice_index, slice_set, Option, Some, None, Contains, refl, sym, ap, ◌∙◌, subst, arith, inl, inr, ⊎_elim, append-nil, length-set, IfSome, ◌≤◌, get_or-set_other}
-use Rattle.hm_moves.proofs.Words.{set-get_or, Shape, Version, IsVersionOf, word_at, naming_word, reply_at, roles_at, Name, Contents, Entry, Create, PlainStore, contents_of, IsThere, made_count, CreateStands, Stands, caller_of, effect_of, new_contents, store_of, create_count, IsLawful, UsageLaws, contents_of-push, contents_of-push_new, there_after}
-use Rattle.hm_moves.proofs.Words.{store_after-append, well_made_legal, made_count-legal, Known, Part, Act, Looks, Builds, Look, LoadStamp, LoadReference, LoadNumber, LoadLink, StoreOwn, Publish, LinkStore, Heap, row_count, raised, HasHead, places_with, IsSizedVersion, ArePlaced, AreRanked, total, IsPublished, with_one, HasContents, Refers, IsLinked, AreChained}
-use Rattle.hm_moves.proofs.Words.{reference_at, link_of, next_version, word_of, want_of, looked_word, listed, where_zero, looked_at, heap_after, row_of_part, Spells, IsWritten, IsBuilt, MayLookInto, IsKnownName, HasRoom, IsFirst, MayTake, MayBegin, TurnsBy, MayLink, MayLook, Reads, HeapIsGood, PartIsGood, AreBelow, Contains-append_right}
+use Rattle.std.proofs.Common.{◌≡◌, ◌≢◌, ◌<◌, ◌+◌, ◌*◌, ℕ, zero, suc, List, [], ◌∷◌, ◌++◌, set, slice_index, slice_set, Option, Some, None, Contains, refl, sym, ap, ◌∙◌, subst, arith, inl, inr, ⊎_elim, append-nil, length-set, IfSome, ◌≤◌}
+use Rattle.hm_moves.proofs.Words.{set-get_or, Shape, Version, IsVersionOf, word_at, naming_word, Name, Contents, Entry, Create, PlainStore, contents_of, IsThere, made_count, CreateStands, Stands, caller_of, effect_of, new_contents, store_of, create_count, IsLawful, UsageLaws, contents_of-push, contents_of-push_new, there_after}
+use Rattle.hm_moves.proofs.Words.{store_after-append, well_made_legal, made_count-legal, Known, Part, Act, Looks, Builds, Look, LoadStamp, LoadReference, LoadNumber, LoadLink, StoreOwn, Publish, LinkStore, Heap, row_count, raised, places_with, IsSizedVersion, ArePlaced, AreRanked, total, IsPublished, with_one, HasContents, Refers, IsLinked, AreChained}
+use Rattle.hm_moves.proofs.Words.{reference_at, link_of, next_version, word_of, want_of, looked_word, listed, where_zero, looked_at, row_of_part, Spells, IsWritten, IsBuilt, MayLookInto, IsKnownName, HasRoom, IsFirst, MayTake, MayBegin, TurnsBy, MayLink, MayLook, Reads, HeapIsGood, PartIsGood, AreBelow}
 use Rattle.hm_model.proofs.WellMade.{fresh_name}
 use Rattle.hm_moves.proofs.Histories.{below_more, lawful_with}
 use Rattle.hm_moves.proofs.Placed.{place_small, placed_more, elsewhere, written_here, contents_same, true_more, not_the_one, ranked_more}
 use Rattle.hm_moves.proofs.Chains.{chained_beside, chained_created, chained_hung}
 use Rattle.hm_moves.proofs.Entries.{all_there, reads_stand, turns_stand}
 use Rattle.hm_moves.proofs.Held.{from_some}
+use Rattle.hm_moves.proofs.Shorter.{naming_low, true_shorter, chained_shorter}
+use Rattle.hm_moves.proofs.Words.{becomes, index_with, publishes, entry_of, HoldsClean, IsLaterThan, MayShorten, Shorten, Ticks, Shifts}
+
+-- a look and a build do all that they do by what they find, publish and let go of
+abbrev pub IsWork : Act → Type 0
+IsWork (Looks l) = Unit {0}
+IsWork (Builds b) = Unit {0}
+IsWork (Ticks t) = ⊥
+IsWork (Shifts f) = ⊥
+
+-- the heap after what is found and published
+abbrev pub heap_worked : {U : Type 0} → Heap → Part U → Act → ℕ → Heap
+heap_worked h p act x = record {
+  words = slice_set h.words (word_of p act) (becomes act x);
+  index = index_with h.index (publishes act x);
+  places = places_with h.places (row_of_part p) (publishes act x);
+  history = h.history ++ listed (entry_of p.number act x);
+}
 
 -- a load that wants an entry is of a link
 wants_link : (l : Look) (o : Entry) → want_of l ≡ Some o → looked_word l ≡ 0
@@ -29,7 +47,7 @@ module _ {U : Type 0} (h : Heap) (seen : List Entry) (p : Part U) (mine : PartIs
   pub look_published : (k : Known) → MayLookInto p k → IsPublished h.index k
   look_published k look = ⊎_elim (λ (c : Contains p.hands.held k). mine.hands.held k c)
       (λ (c : Contains p.hands.own k).
-      (mine.hands.own k (Contains-append_right p.hands.left p.hands.own k c)).published) look
+      (mine.hands.own k c).published) look
 
   -- its region is one of the rows
   pub row_below : row_of_part p < row_count shape
@@ -92,6 +110,13 @@ module _ {U : Type 0} (lawful : U → PlainStore → Type 0) (allowed : U → Pl
   abbrev make : Entry → Type 0
   make e = Stands store e → allowed p.site.usage store e
 
+  -- the words say what is clean, and what is later
+  abbrev clean : Type 0
+  clean = HoldsClean h.words p
+
+  abbrev later : Known → ℕ → Known → Type 0
+  later = IsLaterThan p.site.shape h
+
   store_one : (e : Entry) → store_of (h.history ++ e ∷ []) ≡ effect_of store e
   store_one e = store_after-append [] h.history (e ∷ [])
 
@@ -114,17 +139,6 @@ module _ {U : Type 0} (lawful : U → PlainStore → Type 0) (allowed : U → Pl
   abbrev entered : List Entry → Heap
   entered es = record h { history = h.history ++ es }
 
-  -- the head words are the same where a word of a version is stored
-  pub head_beside : (v : Version) (i y : ℕ)
-      → HasHead s h.places.to (slice_set h.words (word_at s v i) y)
-  head_beside v i y = record {
-    stage = get_or-set_other h.words (word_at s v i) 0 y 0 (λ e. omega arith) ∙ good.head.stage;
-    replies = λ q low. get_or-set_other h.words (word_at s v i) (reply_at q) y 0 (λ e. omega arith)
-        ∙ good.head.replies q low;
-    roles = λ q low. get_or-set_other h.words (word_at s v i) (roles_at s q) y 0 (λ e. omega arith)
-        ∙ good.head.roles q low;
-  }
-
   -- an entry is made that leaves the store, or none
   read : (o : Option Entry) → IfSome o make
       → IfSome o (λ e. Stands store e × (effect_of store e ≡ store) × (caller_of e ≡ p.number))
@@ -135,7 +149,6 @@ module _ {U : Type 0} (lawful : U → PlainStore → Type 0) (allowed : U → Pl
       let same : store_of (h.history ++ e ∷ []) ≡ store = store_one e ∙ stands.1 in
       record {
         wide = good.wide;
-        head = good.head;
         placed = good.placed;
         ranked = good.ranked;
         contents = good.contents;
@@ -156,7 +169,6 @@ module _ {U : Type 0} (lawful : U → PlainStore → Type 0) (allowed : U → Pl
       (ap h.index e ∙ next_none lawful allowed h seen p good mine room) in cc)) in
       record {
         wide = length-set h.words (word_at s (next_version p) i) word ∙ good.wide;
-        head = head_beside (next_version p) i word;
         placed = good.placed;
         ranked = good.ranked;
         contents = λ k is. contents_same s h.index h.words words k (λ j some small. beside k j is small)
@@ -225,17 +237,17 @@ module _ {U : Type 0} (lawful : U → PlainStore → Type 0) (allowed : U → Pl
     rank : k.rank < total h.places.made (row_count s) + 1
 
   placed_with : (k : Known) → Lies k
-      → ArePlaced s (with_one h.index k) (raised h.places.used (row_of_part p))
+      → ArePlaced s (with_one h.index k) h.places.dead (raised h.places.used (row_of_part p))
   placed_with k l = placed_more s h.index h.places (row_of_part p) k good.placed (row_below h seen p mine)
-      (room_left h seen p mine l.room) (own_place k l.version) l.sized
+      mine.draft.live (room_left h seen p mine l.room) (own_place k l.version) l.sized
 
   ranked_with : (k : Known) → Lies k
-      → AreRanked s (with_one h.index k) (places_with h.places (row_of_part p) (Some k)) 0
+      → AreRanked s (with_one h.index k) (places_with h.places (row_of_part p) (Some k))
   ranked_with k l = ranked_more s h.index h.places (row_of_part p) k good.placed (row_below h seen p mine)
-      (room_left h seen p mine l.room) (own_place k l.version) 0 good.ranked l.rank
+      mine.draft.live (room_left h seen p mine l.room) (own_place k l.version) good.ranked l.rank
 
   -- a new object is published
-  published : (k : Known) → MayBegin known make p k
+  published : (k : Known) → MayBegin known make clean later p k
       → Kept (with_version (slice_set h.words (word_at s (next_version p) 0) 0) k
       (Create p.number k.name k.contents.refs k.contents.numbers ∷ []))
   published k may =
@@ -264,7 +276,6 @@ module _ {U : Type 0} (lawful : U → PlainStore → Type 0) (allowed : U → Pl
       } in
       record {
         wide = length-set h.words (word_at s (next_version p) 0) 0 ∙ good.wide;
-        head = head_beside (next_version p) 0 0;
         placed = placed_with k lies;
         ranked = ranked_with k lies;
         contents = true_more s h.index h.words words k none
@@ -318,7 +329,7 @@ module _ {U : Type 0} (lawful : U → PlainStore → Type 0) (allowed : U → Pl
       }
 
   -- a version is hung on the last one of its object
-  hung : (at k : Known) (o : Option Entry) → MayLink known make p at k o
+  hung : (at k : Known) (o : Option Entry) → MayLink known make clean later p at k o
       → 0 ≡ link_of s h.words at
       → Kept (with_version (slice_set h.words (word_at s at.version 0) (naming_word (Some k.version))) k
       (listed o))
@@ -354,7 +365,6 @@ module _ {U : Type 0} (lawful : U → PlainStore → Type 0) (allowed : U → Pl
       } in
       record {
         wide = length-set h.words (word_at s at.version 0) (naming_word (Some k.version)) ∙ good.wide;
-        head = head_beside at.version 0 (naming_word (Some k.version));
         placed = placed_with k lies;
         ranked = ranked_with k lies;
         contents = true_more s h.index h.words words k none
@@ -375,7 +385,7 @@ module _ {U : Type 0} (lawful : U → PlainStore → Type 0) (allowed : U → Pl
       (sym (same_word h.words w x is)) (read None tt tt)
 
   -- the entry that a load makes reads the last version, and so leaves the store
-  reading : (l : Look) → MayLook known make p l → (x : ℕ)
+  reading : (l : Look) → MayLook known make clean later p l → (x : ℕ)
       → x ≡ slice_index h.words (word_of p (Looks l))
       → (o : Option Entry) → want_of l ≡ o
       → IfSome (where_zero o x) make
@@ -390,8 +400,8 @@ module _ {U : Type 0} (lawful : U → PlainStore → Type 0) (allowed : U → Pl
         (from_some (Reads known p (looked_at l)) (want_of l) o e may.reads),
   )
 
-  looked : (l : Look) → MayLook known make p l → (x : ℕ) → x ≡ slice_index h.words (word_of p (Looks l))
-      → Kept (heap_after h p (Looks l) x)
+  looked : (l : Look) → MayLook known make clean later p l → (x : ℕ) → x ≡ slice_index h.words (word_of p (Looks l))
+      → Kept (heap_worked h p (Looks l) x)
   looked l may x is =
       let r = reading l may x is (want_of l) refl in
       subst (λ (words : List ℕ). Kept record h {
@@ -400,17 +410,46 @@ module _ {U : Type 0} (lawful : U → PlainStore → Type 0) (allowed : U → Pl
       })
       (sym (same_word h.words (word_of p (Looks l)) x is)) (read (where_zero (want_of l) x) r.0 r.1)
 
-  -- a move leaves a good heap
-  pub heap_step : (act : Act) → MayTake known make p act → (x : ℕ)
-      → x ≡ slice_index h.words (word_of p act) → Kept (heap_after h p act x)
-  heap_step (Looks l) may x is = looked l may x is
-  heap_step (Builds (StoreOwn i word)) may x is =
+  -- a word comes to name a later version
+  shortened : (at : Known) (i : ℕ) (target : Known) → MayShorten known make clean later p at i target
+      → Kept record h {
+        words = slice_set h.words (word_at s at.version i) (naming_word (Some target.version));
+        history = h.history ++ [];
+      }
+  shortened at i target may =
+      let l = may.later in
+      let is : IsPublished h.index at = (mine.hands.own at may.own).published in
+      let low : i < 16 = naming_low i may.word in
+      let fits : IsVersionOf s at.version = good.placed.fits at is in
+      let new : IsPublished h.index target = mine.hands.held target may.held in
+      let words : List ℕ = slice_set h.words (word_at s at.version i) (naming_word (Some target.version)) in
+      subst (λ (l : List Entry). Kept record h { words = words; history = l }) (sym (append-nil h.history))
+      record {
+        wide = length-set h.words (word_at s at.version i) (naming_word (Some target.version)) ∙ good.wide;
+        placed = good.placed;
+        ranked = good.ranked;
+        contents = true_shorter s h.words h.index at l.was target i good.wide fits low is l.published new l.named
+            l.same l.rank may.word good.contents;
+        chained = chained_shorter s h.words h.index at l.was target i good.wide fits low is l.published new
+            l.named l.same l.rank store good.chained;
+        history = good.history;
+        callers = good.callers;
+      }
+
+  -- a look or a build leaves a good heap
+  pub heap_step : (act : Act) → IsWork act → MayTake known make clean later p act → (x : ℕ)
+      → x ≡ slice_index h.words (word_of p act) → Kept (heap_worked h p act x)
+  heap_step (Looks l) work may x is = looked l may x is
+  heap_step (Builds (StoreOwn i word)) work may x is =
       subst (λ (l : List Entry). Kept record h {
         words = slice_set h.words (word_at s (next_version p) i) word;
         history = l;
       }) (sym (append-nil h.history)) (wrote i word may.below may.room)
-  heap_step (Builds (Publish k)) may x is = published k may
-  heap_step (Builds (LinkStore at k None)) may zero is = hung at k None may is
-  heap_step (Builds (LinkStore at k (Some e))) may zero is = hung at k (Some e) may is
-  heap_step (Builds (LinkStore at k None)) may (suc n) is = still (word_at s at.version 0) (suc n) is
-  heap_step (Builds (LinkStore at k (Some e))) may (suc n) is = still (word_at s at.version 0) (suc n) is
+  heap_step (Builds (Publish k)) work may x is = published k may
+  heap_step (Builds (LinkStore at k None)) work may zero is = hung at k None may is
+  heap_step (Builds (LinkStore at k (Some e))) work may zero is = hung at k (Some e) may is
+  heap_step (Builds (LinkStore at k None)) work may (suc n) is = still (word_at s at.version 0) (suc n) is
+  heap_step (Builds (LinkStore at k (Some e))) work may (suc n) is = still (word_at s at.version 0) (suc n) is
+  heap_step (Builds (Shorten at i target)) work may x is = shortened at i target may
+  heap_step (Ticks t) work may x is = absurd work
+  heap_step (Shifts f) work may x is = absurd work

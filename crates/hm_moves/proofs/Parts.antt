@@ -1,13 +1,30 @@
 -- What a move leaves of the caller that makes it, and of the others.
 use Rattle.std.proofs.Common.{◌≡◌, ◌≢◌, ◌⊎◌, ◌||◌, ◌<◌, ◌+◌, ◌*◌, ℕ, zero, suc, true, List, [], ◌∷◌, ◌++◌, length, set, slice_index, slice_set, Option, Some, None, IfSome, Contains, refl, sym, ap, ◌∙◌, subst, arith, inl, append-nil, length-set, get_or-set_same, get_or-set_other, append_assoc, false, ne_eqb, Bool, ◌||◌}
 use Rattle.hm_moves.proofs.Words.{Contains-push, Contains-append_left, Shape, Version, IsAt, version_at, word_at, Name, Entry, PlainStore, calls_of, opening_of, IsLawful, Known, Part, Act, Looks, Builds, Look, LoadStamp, LoadReference, LoadNumber, LoadLink, list_any, StoreOwn, Publish, LinkStore, Move, Heap, row_of, Places, IsOwn, places_with, IsPublished, Index, next_version, word_of}
-use Rattle.hm_moves.proofs.Words.{becomes, entry_of, publishes, finds, listed, looked_at, looked_word, heap_after, index_with, row_of_part, count_of, is_naming, written_with, without, with_held, hands_after, part_after, seen_after, is_version, IsWritten, Names, HasRoom, IsWritable, MayLookInto, MayTake, IsWordOf, Begins, HeapIsGood, PartIsGood, HasCalls, AreIndexed, AreApart, published_of}
+use Rattle.hm_moves.proofs.Words.{becomes, entry_of, publishes, finds, listed, looked_at, looked_word, index_with, row_of_part, count_of, is_naming, written_with, without, with_held, hands_after, seen_after, is_version, IsWritten, Names, HasRoom, IsWritable, MayLookInto, MayTake, IsWordOf, Begins, HeapIsGood, PartIsGood, HasCalls, AreIndexed, AreApart, published_of}
 use Rattle.hm_moves.proofs.Histories.{IsBy, calls_after, calls_beside, begins_more, begins_on, begins_self, lawful_before}
 use Rattle.hm_moves.proofs.Placed.{place_small, published_either, raised_here, raised_else, same_row, elsewhere, written_here, raised_here, raised_else, not_the_one}
 use Rattle.hm_moves.proofs.Held.{listed_cases, from_some, held_cases, held_stays, without_held, none_written, written_low, unnamed_wide, unnamed_was, names_without, names_more, contains_here, contains_behind}
 use Rattle.hm_moves.proofs.Heaps.{same_word, look_published, next_small}
 use Rattle.hm_moves.proofs.Finding.{next_now, index_more, index_here, entry_by, fresh_now, found_now}
 use Rattle.std.proofs.lemmas.List.Folds.{list_any-append}
+use Rattle.std.proofs.Common.{◌/◌, inr, ⊎_elim}
+use Rattle.hm_moves.proofs.Words.{naming_word}
+use Rattle.std.proofs.lemmas.List.Elements.{Contains-append_cases}
+use Rattle.std.proofs.lemmas.Nat.{div-mul-add}
+use Rattle.hm_shape.specs.declared.roles.Role.TheVariants.{To, From}
+use Rattle.hm_moves.specs.Good.{row_in}
+use Rattle.hm_moves.specs.After.{worked}
+use Rattle.hm_moves.proofs.Words.{Shorten, Ticks, Shifts, is_kept}
+use Rattle.hm_moves.proofs.Shorter.{naming_low}
+use Rattle.hm_moves.proofs.Heaps.{IsWork, heap_worked, next_none, fresh_none}
+
+plus_none : (n : ℕ) → n + 0 ≡ n
+plus_none n = omega arith
+
+-- the row of a place
+row_of_place : (row n i : ℕ) → i < n → (row * n + i) / n ≡ row
+row_of_place row n i low = div-mul-add row n i low
 
 -- a load moves one of the words of a version
 look_low : (l : Look) → IsWordOf l → looked_word l < 16
@@ -35,12 +52,13 @@ apart_with (k ∷ ks) o h f = (
 
 module _ {U : Type 0} (lawful : U → PlainStore → Type 0) (allowed : U → PlainStore → Entry → Type 0)
     (h : Heap) (seen : List Entry) (p : Part U) (good : HeapIsGood lawful allowed p.site h)
-    (mine : PartIsGood p.site h seen p) (names : Name → Type 0) (make : Entry → Type 0) where
+    (mine : PartIsGood p.site h seen p) (names : Name → Type 0) (make : Entry → Type 0) (clean : Type 0)
+    (later : Known → ℕ → Known → Type 0) where
   abbrev s : Shape
   s = p.site.shape
 
   abbrev May : Act → Type 0
-  May act = MayTake names make p act
+  May act = MayTake names make clean later p act
 
   -- the word of the next version, if so many places are used
   abbrev own_word : List ℕ → ℕ → ℕ → ℕ
@@ -55,10 +73,14 @@ module _ {U : Type 0} (lawful : U → PlainStore → Type 0) (allowed : U → Pl
   used_after (Some k) =
       let a = mine.draft.used in let b = raised_here h.places.used (row_of_part p) in omega arith
 
-  -- no act changes where callers write
-  to_same : (o : Option Known) (q : ℕ) → (places o).to q ≡ h.places.to q
-  to_same None q = refl
-  to_same (Some k) q = refl
+  -- what is published changes no role, and no row is dead for it
+  role_same : (o : Option Known) (row : ℕ) → (places o).role row ≡ h.places.role row
+  role_same None row = refl
+  role_same (Some k) row = refl
+
+  dead_same : (o : Option Known) (row : ℕ) → (places o).dead row ≡ h.places.dead row
+  dead_same None row = refl
+  dead_same (Some k) row = refl
 
   wide_with : (act : Act) (o : Option Known) → length (written_with p.draft.written act o) ≡ 16
   wide_with act (Some k) = refl
@@ -66,6 +88,9 @@ module _ {U : Type 0} (lawful : U → PlainStore → Type 0) (allowed : U → Pl
   wide_with (Builds (StoreOwn i word)) None = length-set p.draft.written i (Some word) ∙ mine.draft.wide
   wide_with (Builds (Publish k)) None = mine.draft.wide
   wide_with (Builds (LinkStore at k o)) None = mine.draft.wide
+  wide_with (Builds (Shorten at i target)) None = mine.draft.wide
+  wide_with (Ticks t) None = mine.draft.wide
+  wide_with (Shifts f) None = mine.draft.wide
 
   -- a word more is stored: it is that one, or one from before
   stored_cases : (i word j w : ℕ) → IsWritten (set p.draft.written i (Some word)) j w → i < 16
@@ -100,19 +125,33 @@ module _ {U : Type 0} (lawful : U → PlainStore → Type 0) (allowed : U → Pl
       )
 
   -- written words are in the Table
-  written_after : (act : Act) → May act → (x : ℕ) → x ≡ slice_index h.words (word_of p act)
+  written_after : (act : Act) → IsWork act → May act → (x : ℕ) → x ≡ slice_index h.words (word_of p act)
       → p.draft.used + count_of (publishes act x) < s.versions → (j w : ℕ)
       → IsWritten (written_with p.draft.written act (publishes act x)) j w
       → own_word (slice_set h.words (word_of p act) (becomes act x))
       (p.draft.used + count_of (publishes act x)) j ≡ w
-  written_after (Looks l) may x is =
+  written_after (Looks l) work may x is =
       as_before (slice_set h.words (word_of p (Looks l)) x) (same_word h.words (word_of p (Looks l)) x is)
-  written_after (Builds (StoreOwn i word)) may x is = one_more i word may
-  written_after (Builds (Publish k)) may x is = λ room j w e. absurd (none_written j w e)
-  written_after (Builds (LinkStore at k o)) may zero is = λ room j w e. absurd (none_written j w e)
-  written_after (Builds (LinkStore at k o)) may (suc n) is =
+  written_after (Builds (StoreOwn i word)) work may x is = one_more i word may
+  written_after (Builds (Publish k)) work may x is = λ room j w e. absurd (none_written j w e)
+  written_after (Builds (LinkStore at k o)) work may zero is = λ room j w e. absurd (none_written j w e)
+  written_after (Builds (LinkStore at k o)) work may (suc n) is =
       as_before (slice_set h.words (word_at s at.version 0) (suc n))
       (same_word h.words (word_at s at.version 0) (suc n) is)
+  written_after (Builds (Shorten at i target)) work may x is = λ room j w e.
+      elsewhere s h.words (version_at s p.number p.draft.region (p.draft.used + 0)) at.version j i
+      (naming_word (Some target.version)) (written_low p.draft.written j w mine.draft.wide e)
+      (naming_low i may.word)
+      (inl (λ same. let none = next_none lawful allowed h seen p good mine (omega arith) in
+      let there : IsPublished h.index at = (mine.hands.own at may.own).published in
+      let here : (version_at s p.number p.draft.region (p.draft.used + 0)).0 ≡ (next_version p).0 = omega arith in
+      let both : Some at ≡ None = sym there ∙ (ap h.index (sym same ∙ here) ∙ none) in cc))
+      ∙ (let a = mine.draft.written (omega arith) j w e in
+      let here : version_at s p.number p.draft.region (p.draft.used + 0) ≡ next_version p =
+      ap (λ (u : ℕ). version_at s p.number p.draft.region u) (plus_none p.draft.used) in
+      ap (λ (v : Version). slice_index h.words (word_at s v j)) here ∙ a)
+  written_after (Ticks t) work may x is = absurd work
+  written_after (Shifts f) work may x is = absurd work
 
   -- before a version is let go, the words that were written name held versions
   named_before : (act : Act) → May act → (x j w : ℕ) → is_naming j ≡ true
@@ -123,6 +162,9 @@ module _ {U : Type 0} (lawful : U → PlainStore → Type 0) (allowed : U → Pl
   named_before (Builds (Publish k)) may x j w n is = absurd (none_written j w is)
   named_before (Builds (LinkStore at k o)) may zero j w n is = absurd (none_written j w is)
   named_before (Builds (LinkStore at k o)) may (suc m) j w n is = mine.draft.named j w n is
+  named_before (Builds (Shorten at i target)) may x j w n is = mine.draft.named j w n is
+  named_before (Ticks t) may x j w n is = mine.draft.named j w n is
+  named_before (Shifts f) may x j w n is = mine.draft.named j w n is
 
   -- what it has published afterwards
   abbrev listed_with : Option Known → List Known
@@ -166,12 +208,28 @@ module _ {U : Type 0} (lawful : U → PlainStore → Type 0) (allowed : U → Pl
         (record { published = t; region = own.region; place = own.place; at = own.at }),
   )
 
+  -- the next version has another number than each that the caller has published: what it left behind
+  -- lies in another row
+  apart_new : (k n : Known) → Contains (published_of p.hands) k → (n.version ≡ next_version p) × HasRoom p
+      → k.version.0 ≢ n.version.0
+  apart_new k n there next e = ⊎_elim
+      (λ (t : Contains p.hands.left k).
+      let row : row_in s k.version ≡ row_of_part p = ap (λ (v : ℕ). v / s.versions) e
+      ∙ (ap (λ (v : Version). row_in s v) next.0 ∙ row_of_place (row_of_part p) s.versions p.draft.used next.1) in
+      let both : h.places.role (row_of_part p) ≡ From = ap h.places.role (sym row) ∙ mine.hands.given k t in
+      let bad : From ≡ To = sym both ∙ mine.draft.to in cc)
+      (λ (t : Contains p.hands.own k).
+      not_the_one h.index n k (fresh_none lawful allowed h seen p good mine n next.1 next.0)
+      (mine.hands.own k t).published e)
+      (Contains-append_cases p.hands.left p.hands.own k there)
+
   -- the caller's hands afterwards have published versions
   hands_now : (m : Move) (x : ℕ) (found : Option Known)
       → IfSome (publishes m.act x) (λ k. (k.version ≡ next_version p) × HasRoom p)
       → IfSome (publishes m.act x) (λ k. h.index k.version.0 ≡ None)
       → IfSome found (IsPublished h.index)
-      → AreIndexed s p.number (index_with h.index (publishes m.act x)) (hands_after p.hands m x found)
+      → AreIndexed s p.number (index_with h.index (publishes m.act x)) (places (publishes m.act x))
+      (hands_after p.hands m x found)
   hands_now m x found next fresh is =
       let new : Option Known = publishes m.act x in
       let same : published_of (hands_after p.hands m x found) ≡ listed_with new =
@@ -187,21 +245,27 @@ module _ {U : Type 0} (lawful : U → PlainStore → Type 0) (allowed : U → Pl
           index_here h.index new k,
           from_some (IsPublished h.index) found k,
         );
-        own = λ k there. grind (
-          arith,
-          listed_cases (published_of p.hands) new k,
-          there,
-          same,
-          mine.hands.own k,
-          still_own p.number new k fresh,
-          index_here h.index new k,
-          fresh_own (index_with h.index new) k,
-          from_some (λ n. (n.version ≡ next_version p) × HasRoom p) new k,
-        );
+        own = λ k there. ⊎_elim
+            (λ (t : Contains p.hands.own k). still_own p.number new k fresh (mine.hands.own k t))
+            (λ (e : new ≡ Some k). fresh_own (index_with h.index new) k
+            (from_some (λ n. (n.version ≡ next_version p) × HasRoom p) new k e next) (index_here h.index new k e))
+            (listed_cases p.hands.own new k there);
+        kept = λ k there. ap is_kept (role_same new (row_in s k.version)) ∙ ⊎_elim
+            (λ (t : Contains p.hands.own k). mine.hands.kept k t)
+            (λ (e : new ≡ Some k).
+            let f = from_some (λ n. (n.version ≡ next_version p) × HasRoom p) new k e next in
+            ap (λ (r : ℕ). is_kept (h.places.role r))
+            (ap (λ (v : Version). row_in s v) f.0
+            ∙ row_of_place (row_of_part p) s.versions p.draft.used f.1)
+            ∙ ap is_kept mine.draft.to)
+            (listed_cases p.hands.own new k there);
+        left = mine.hands.left;
+        given = λ k there. role_same new (row_in s k.version) ∙ mine.hands.given k there;
+        alive = λ k there live. index_more h.index new k fresh
+            (mine.hands.alive k there (sym (dead_same new (row_in s k.version)) ∙ live));
         all = λ k own. subst (λ (l : List Known). Contains l k) (sym same) (own_more new k own);
         once = subst AreApart (sym same) (apart_with (published_of p.hands) new mine.hands.once
-            (λ k n there e. not_the_one h.index n k (from_some (λ f. h.index f.version.0 ≡ None) new n e fresh)
-            (mine.hands.own k there).published));
+            (λ k n there e. apart_new k n there (from_some (λ f. (f.version ≡ next_version p) × HasRoom p) new n e next)));
       }
 
   module _ (begins : Begins seen h.history) where
@@ -231,12 +295,12 @@ module _ {U : Type 0} (lawful : U → PlainStore → Type 0) (allowed : U → Pl
     seen_lawful (Some e) l = l
 
     -- the caller that makes the move
-    pub own_part : (m : Move) → May m.act → (x : ℕ) → x ≡ slice_index h.words (word_of p m.act)
-        → PartIsGood p.site (heap_after h p m.act x) (seen_after seen h.history (entry_of p.number m.act x))
-        (part_after p m x (finds h.index m.act x))
-    own_part m may x is =
-        let fresh = fresh_now lawful allowed h seen p good mine names make m.act may x in
-        let by = entry_by lawful allowed h seen p good mine names make m.act may x in
+    pub own_part : (m : Move) → IsWork m.act → May m.act → (x : ℕ) → x ≡ slice_index h.words (word_of p m.act)
+        → PartIsGood p.site (heap_worked h p m.act x) (seen_after seen h.history (entry_of p.number m.act x))
+        (worked p m x (finds h.index m.act x))
+    own_part m work may x is =
+        let fresh = fresh_now lawful allowed h seen p good mine names make clean later m.act may x in
+        let by = entry_by lawful allowed h seen p good mine names make clean later m.act may x in
         let found : Option Known = finds h.index m.act x in
         let fresh_words : List (Option ℕ) = written_with p.draft.written m.act (publishes m.act x) in
         let left : List Known = without p.hands.held m.let_go in
@@ -245,10 +309,11 @@ module _ {U : Type 0} (lawful : U → PlainStore → Type 0) (allowed : U → Pl
           number = mine.number;
           draft = record {
             region = mine.draft.region;
-            to = mine.draft.to ∙ sym (to_same (publishes m.act x) p.number);
+            to = role_same (publishes m.act x) (row_of_part p) ∙ mine.draft.to;
+            live = dead_same (publishes m.act x) (row_of_part p) ∙ mine.draft.live;
             used = used_after (publishes m.act x);
             wide = unnamed_wide m.let_go fresh_words ∙ wide_with m.act (publishes m.act x);
-            written = λ room j w e. written_after m.act may x is room j w
+            written = λ room j w e. written_after m.act work may x is room j w
                 (unnamed_was m.let_go fresh_words j w e);
             named = λ j w n e. names_more left (with_held (with_held left found) (publishes m.act x)) w
                 (λ k c. held_stays (with_held left found) (publishes m.act x) k (held_stays left found k c))
@@ -256,8 +321,8 @@ module _ {U : Type 0} (lawful : U → PlainStore → Type 0) (allowed : U → Pl
                 (named_before m.act may x j w n (unnamed_was m.let_go fresh_words j w e)));
           };
           hands = hands_now m x found
-              (next_now lawful allowed h seen p good mine names make m.act may x) fresh
-              (found_now lawful allowed h seen p good mine names make m.act may x is).1;
+              (next_now lawful allowed h seen p good mine names make clean later m.act may x) fresh
+              (found_now lawful allowed h seen p good mine names make clean later m.act work may x is).1;
           calls = record {
             all = calls_after p.number h.history p.calls.mine (entry_of p.number m.act x) by mine.calls.all;
             seen = calls_seen (entry_of p.number m.act x) by;
@@ -297,18 +362,23 @@ module _ {U : Type 0} (lawful : U → PlainStore → Type 0) (allowed : U → Pl
     not_next a b e =
         other_row (same_row their_row (row_of_part p) s.versions q.draft.used p.draft.used b a e)
 
-    unmoved : (act : Act) → May act → q.draft.used < s.versions → (y j : ℕ) → j < 16
+    unmoved : (act : Act) → IsWork act → May act → q.draft.used < s.versions → (y j : ℕ) → j < 16
         → slice_index (slice_set h.words (word_of p act) y) (word_at s their_next j)
         ≡ slice_index h.words (word_at s their_next j)
-    unmoved (Looks l) may room y j low =
+    unmoved (Looks l) work may room y j low =
         elsewhere s h.words their_next (looked_at l).version j (looked_word l) y low
         (look_low l may.word) (inl (not_looked (looked_at l) may.look room))
-    unmoved (Builds (StoreOwn i word)) may room y j low =
+    unmoved (Builds (StoreOwn i word)) work may room y j low =
         elsewhere s h.words their_next (next_version p) j i y low may.below (inl (not_next may.room room))
-    unmoved (Builds (Publish k)) may room y j low =
+    unmoved (Builds (Publish k)) work may room y j low =
         elsewhere s h.words their_next (next_version p) j 0 y low (omega arith)
         (inl (not_next may.first.room room))
-    unmoved (Builds (LinkStore at k o)) may room y j low =
+    unmoved (Builds (Shorten at i target)) work may room y j low =
+        elsewhere s h.words their_next at.version j i y low (naming_low i may.word)
+        (inl (not_looked at (inr may.own) room))
+    unmoved (Ticks t) work may room y j low = absurd work
+    unmoved (Shifts f) work may room y j low = absurd work
+    unmoved (Builds (LinkStore at k o)) work may room y j low =
         elsewhere s h.words their_next at.version j 0 y low (omega arith) (inl (not_looked at may.look room))
 
     -- its calls are as before, also in what a seat that carries both has seen
@@ -354,27 +424,33 @@ module _ {U : Type 0} (lawful : U → PlainStore → Type 0) (allowed : U → Pl
     )
 
     -- a caller that makes no move
-    pub other_part : (act : Act) → May act → (x : ℕ) → (after : List Entry)
+    pub other_part : (act : Act) → IsWork act → May act → (x : ℕ) → (after : List Entry)
         → HasCalls p.site.start q.number q.calls.mine (h.history ++ listed (entry_of p.number act x)) after
-        → PartIsGood p.site (heap_after h p act x) after q
-    other_part act may x after calls =
-        let fresh = fresh_now lawful allowed h seen p good mine names make act may x in
+        → PartIsGood p.site (heap_worked h p act x) after q
+    other_part act work may x after calls =
+        let fresh = fresh_now lawful allowed h seen p good mine names make clean later act may x in
         record {
           site = theirs.site;
           number = theirs.number;
           draft = record {
             region = theirs.draft.region;
-            to = theirs.draft.to ∙ sym (to_same (publishes act x) q.number);
+            to = role_same (publishes act x) their_row ∙ theirs.draft.to;
+            live = dead_same (publishes act x) their_row ∙ theirs.draft.live;
             used = theirs.draft.used ∙ sym (used_same (publishes act x));
             wide = theirs.draft.wide;
-            written = λ room j w is. unmoved act may room (becomes act x) j
+            written = λ room j w is. unmoved act work may room (becomes act x) j
                 (written_low q.draft.written j w theirs.draft.wide is) ∙ theirs.draft.written room j w is;
             named = theirs.draft.named;
           };
           hands = record {
             held = λ k there. index_more h.index (publishes act x) k fresh (theirs.hands.held k there);
             own = λ k there. still_own q.number (publishes act x) k fresh (theirs.hands.own k there);
-            all = their_own (publishes act x) (next_now lawful allowed h seen p good mine names make act may
+            kept = λ k there. ap is_kept (role_same (publishes act x) (row_in s k.version)) ∙ theirs.hands.kept k there;
+            left = theirs.hands.left;
+            given = λ k there. role_same (publishes act x) (row_in s k.version) ∙ theirs.hands.given k there;
+            alive = λ k there live. index_more h.index (publishes act x) k fresh
+                (theirs.hands.alive k there (sym (dead_same (publishes act x) (row_in s k.version)) ∙ live));
+            all = their_own (publishes act x) (next_now lawful allowed h seen p good mine names make clean later act may
                 x);
             once = theirs.hands.once;
           };

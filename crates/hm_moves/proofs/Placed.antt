@@ -1,5 +1,5 @@
 -- Where versions lie, how they are counted, and one version more.
-use Rattle.std.proofs.Common.{◌≡◌, ◌≢◌, ◌⊎◌, ◌<◌, ◌≤◌, ◌+◌, ◌*◌, ℕ, zero, suc, eq-eqb, ne_eqb, List, length, slice_index, slice_set, Option, Some, None, refl, sym, ap, ◌∙◌, subst, arith, ⊎_elim, get_or-set_other, get_or-set_same, suc-mul, mul-le-mul_right, lt_of_not-le, mul-le-mul_left, mul-suc, mul_assoc}
+use Rattle.std.proofs.Common.{false, ◌≡◌, ◌≢◌, ◌⊎◌, ◌<◌, ◌≤◌, ◌+◌, ◌*◌, ℕ, zero, suc, eq-eqb, ne_eqb, List, length, slice_index, slice_set, Option, Some, None, refl, sym, ap, ◌∙◌, subst, arith, ⊎_elim, get_or-set_other, get_or-set_same, suc-mul, mul-le-mul_right, lt_of_not-le, mul-le-mul_left, mul-suc, mul_assoc}
 use Rattle.hm_moves.proofs.Words.{nat_tests, common_steps, eqb_tells, dec_le, Shape, Version, IsVersionOf, word_at, word_count, Name, Known, Index, IsPublished, with_one, words_at, Refers, Follows, HasContents, AreTrue, reference_at, IsSizedVersion, ArePlaced, row_count, total, raised, Places, rank_limit, AreRanked, places_with}
 
 -- a version that is published last is published
@@ -137,11 +137,11 @@ made_small s places done filled made freed =
     sym (mul_assoc (row_count s) s.versions (done + 1)) in omega arith
 
 -- so no rank reaches it
-pub rank_small : (s : Shape) (index : Index) (places : Places) (done : ℕ) → ArePlaced s index places.used
-    → AreRanked s index places done → (k : Known) → IsPublished index k → k.rank < rank_limit s done
-rank_small s index places done placed ranked k is =
+pub rank_small : (s : Shape) (index : Index) (places : Places) → ArePlaced s index places.dead places.used
+    → AreRanked s index places → (k : Known) → IsPublished index k → k.rank < rank_limit s places.done
+rank_small s index places placed ranked k is =
     let a = ranked.ranks k is in
-    let b = made_small s places done placed.filled ranked.made ranked.freed in omega arith
+    let b = made_small s places places.done placed.filled ranked.made ranked.freed in omega arith
 
 -- rows have at least the places of one
 pub versions_some : (r v : ℕ) → 0 < r → v ≤ r * v
@@ -149,8 +149,8 @@ versions_some zero v low = absurd (omega arith)
 versions_some (suc r) v low = omega (arith, suc-mul r v)
 
 module _ (s : Shape) (index : Index) (places : Places) (row : ℕ) (k : Known)
-    (placed : ArePlaced s index places.used)
-    (below : row < row_count s) (room : places.used row < s.versions)
+    (placed : ArePlaced s index places.dead places.used)
+    (below : row < row_count s) (live : places.dead row ≡ false) (room : places.used row < s.versions)
     (at : k.version.0 ≡ row * s.versions + places.used row) where
   abbrev used : ℕ → ℕ
   used = places.used
@@ -163,11 +163,12 @@ module _ (s : Shape) (index : Index) (places : Places) (row : ℕ) (k : Known)
   fresh_small = let h = place_small row (row_count s) s.versions (used row) below room in omega arith
 
   -- a version more lies at that place
-  pub placed_more : IsSizedVersion k → ArePlaced s (with_one index k) (raised used row)
+  pub placed_more : IsSizedVersion k → ArePlaced s (with_one index k) places.dead (raised used row)
   placed_more sized = record {
+    numbered = λ v m is. grind (arith, common_steps, eqb_tells v k.version.0, placed.numbered v m);
     sized = λ m there. grind (arith, published_either index k m there, placed.sized m);
     fits = λ m there. let small = fresh_small in grind (arith, published_either index k m there, placed.fits m);
-    taken = λ r i low little. grind (arith, common_steps, nat_tests, placed.taken r i low);
+    taken = λ r i low alive little. grind (arith, common_steps, nat_tests, placed.taken r i low alive);
     unused = λ r i low little past. grind (
       arith,
       common_steps,
@@ -175,13 +176,20 @@ module _ (s : Shape) (index : Index) (places : Places) (row : ℕ) (k : Known)
       placed.unused r i low little,
       same_row r row s.versions i (used row) little room,
     );
+    empty = λ r i low little dead. grind (
+      arith,
+      common_steps,
+      nat_tests,
+      placed.empty r i low little dead,
+      same_row r row s.versions i (used row) little room,
+    );
     filled = λ r. let h = placed.filled r in grind (arith, common_steps, nat_tests);
   }
 
   -- and is counted
-  pub ranked_more : (done : ℕ) → AreRanked s index places done → k.rank < total places.made (row_count s) + 1
-      → AreRanked s (with_one index k) (places_with places row (Some k)) done
-  ranked_more done ranked rank = record {
+  pub ranked_more : AreRanked s index places → k.rank < total places.made (row_count s) + 1
+      → AreRanked s (with_one index k) (places_with places row (Some k))
+  ranked_more ranked rank = record {
     ranks = λ m there. let more = total_more places.made row (row_count s) below in
         grind (arith, published_either index k m there, ranked.ranks m);
     made = λ r. let h = ranked.made r in grind (arith, common_steps, nat_tests);

@@ -1,10 +1,17 @@
 -- A fresh machine leads to safe ones alone.
-use Rattle.std.proofs.Common.{◌≤◌, ℕ, zero, suc, sym, subst, arith}
+use Rattle.std.proofs.Common.{◌≡◌, ◌≢◌, ◌∙◌, Some, slice_index, ◌≤◌, ℕ, zero, suc, sym, subst, arith}
 use Rattle.hm_moves.proofs.Words.{Entry, PlainStore, store_of, opening_of, starting_count, IsSizedStart, UsageLaws, Known, Site, Index, IsLinked, link_of, Heap, Core, Good, IsFreshCore, IsForward, IsSafe, Leads, here, moved, let_go, cut, met}
+use Rattle.hm_moves.proofs.Words.{Part, Move, View, Carries, IsLawfulMove, IsThere, Stands, HoldsClean, IsLaterThan, next_version, HasRoom, publishes, word_of}
 use Rattle.hm_moves.proofs.Steps.{good_step}
 use Rattle.hm_moves.proofs.Seats.{good_split, good_join}
-use Rattle.hm_moves.proofs.Fresh.{good_fresh}
-use Rattle.hm_moves.proofs.Letting.{good_released}
+use Rattle.hm_moves.proofs.FreshMachine.{good_fresh}
+use Rattle.hm_moves.proofs.Released.{good_released}
+use Rattle.hm_shape.specs.declared.version.Version.{Version}
+use Rattle.hm_moves.specs.Collecting.{Reached}
+use Rattle.hm_moves.proofs.Finding.{next_now}
+use Rattle.hm_moves.proofs.Held.{from_some}
+use Rattle.hm_moves.proofs.Reaching.{reach_good, names_good}
+use Rattle.hm_moves.proofs.Cycled.{cycle_good}
 
 forward : (index : Index) (store : PlainStore) (k : Known) (w : ℕ) → IsLinked index store k w → IsForward
     index k w
@@ -19,6 +26,9 @@ module _ {U : Type 0} (lawful : U → PlainStore → Type 0) (allowed : U → Pl
       let h : Heap = c.heap in
       let chained = good.heap.chained in
       record {
+        reach = reach_good lawful allowed g c good;
+        names = names_good lawful allowed g c good;
+        cycle = cycle_good lawful allowed g c good;
         contents = record {
           words = good.heap.contents;
           present = λ k is zero_link. subst (IsLinked h.index (store_of h.history) k) zero_link
@@ -65,3 +75,21 @@ module _ {U : Type 0} (lawful : U → PlainStore → Type 0) (allowed : U → Pl
         g d
     safe_always c d sized room fresh now l =
         safe_good d (good_always c d (good_fresh lawful allowed g sized room c fresh now) l)
+
+module _ {U : Type 0} (lawful : U → PlainStore → Type 0) (allowed : U → PlainStore → Entry → Type 0) where
+  -- a version that a move publishes is not one that is reached
+  pub given_again : (g : Site U) (c : Core U) (id place : ℕ) (v : View U) (p : Part U) (m : Move) (w : Version)
+      (k : Known) → Good lawful allowed g c → Carries c.views id place v p → IsLawfulMove lawful allowed c.heap p m
+      → Reached g.shape c w → publishes m.act (slice_index c.heap.words (word_of p m.act)) ≡ Some k
+      → k.version ≢ w
+  given_again g c id place v p m w k good at may reached is same =
+      let site : p.site ≡ g = (good.parts id place v p at).site in
+      let own : Good lawful allowed p.site c = subst (λ (z : Site U). Good lawful allowed z c) (sym site) good in
+      let mine = own.parts id place v p at in
+      let next = from_some (λ n. (n.version ≡ next_version p) × HasRoom p)
+      (publishes m.act (slice_index c.heap.words (word_of p m.act))) k is
+      (next_now lawful allowed c.heap v.seen p own.heap mine (IsThere (store_of c.heap.history))
+      (λ e. Stands (store_of c.heap.history) e → allowed p.site.usage (store_of c.heap.history) e)
+      (HoldsClean c.heap.words p) (IsLaterThan p.site.shape c.heap) m.act may.act
+      (slice_index c.heap.words (word_of p m.act))) in
+      (reach_good lawful allowed g c good).given w id place v p reached at next.1 (sym same ∙ next.0)

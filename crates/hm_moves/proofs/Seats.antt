@@ -4,6 +4,26 @@ use Rattle.hm_moves.proofs.Words.{some, some-ne-none, get_elem?, Entry, PlainSto
 use Rattle.hm_moves.proofs.Histories.{below_later, none_made, nothing_more, begins_on, begins_longer, left_begins, right_begins, calls_between}
 use Rattle.hm_moves.proofs.Places.{at_set, at_longer, at_later, at_below, at_end, at_either, set_here, set_else}
 
+-- where a caller stood before a split, by the seat and place where it stands
+abbrev CameFrom : ℕ → ℕ → ℕ → ℕ → ℕ → ℕ → ℕ → Type 0
+CameFrom id seats cut j k seat place = ((j ≡ id) × (seat ≡ id) × (place ≡ k) × (k < cut)) ⊎
+    (((j ≡ seats) × (seat ≡ id) × (place ≡ cut + k)) ⊎
+    ((j ≢ id) × (j < seats) × (seat ≡ j) × (place ≡ k)))
+
+split_once : (id seats cut j k a b m n c d : ℕ) → id < seats → CameFrom id seats cut j k a b
+    → CameFrom id seats cut m n c d → a ≡ c → b ≡ d → (j ≡ m) × (k ≡ n)
+split_once id seats cut j k a b m n c d inside p q e f = grind arith
+
+-- and before a meeting
+abbrev MergedFrom : ℕ → ℕ → ℕ → ℕ → ℕ → ℕ → ℕ → Type 0
+MergedFrom id other cut j k seat place = ((j ≡ id) × (seat ≡ id) × (place ≡ k) × (k < cut)) ⊎
+    (((j ≡ id) × (seat ≡ other) × (k ≡ cut + place)) ⊎
+    ((j ≢ id) × (j ≢ other) × (seat ≡ j) × (place ≡ k)))
+
+join_once : (id other cut j k a b m n c d : ℕ) → other ≢ id → MergedFrom id other cut j k a b
+    → MergedFrom id other cut m n c d → a ≡ c → b ≡ d → (j ≡ m) × (k ≡ n)
+join_once id other cut j k a b m n c d apart p q e f = grind arith
+
 module _ {U : Type 0} (lawful : U → PlainStore → Type 0) (allowed : U → PlainStore → Entry → Type 0)
     (g : Site U) (c : Core U) (id : ℕ) (v : View U) (good : Good lawful allowed g c)
     (at : get_elem? c.views id ≡ some v) where
@@ -85,12 +105,16 @@ module _ {U : Type 0} (lawful : U → PlainStore → Type 0) (allowed : U → Pl
           let a = came j k u q s in
           let b = came m n u' q' s' in
           let e = good.apart a.seat a.place b.seat b.place a.old b.old q q' a.stood b.stood same in
-          let e0 : a.seat ≡ b.seat = e.0 in
-          let e1 : a.place ≡ b.place = e.1 in
-          let ha = a.how in
-          let hb = b.how in
-          let inside : id < length c.views = at_below c.views id v at in
-          grind arith;
+          split_once id (length c.views) (length left) j k a.seat a.place m n b.seat b.place
+          (at_below c.views id v at) a.how b.how e.0 e.1;
+      collects = record {
+        state = good.collects.state;
+        moves = good.collects.moves;
+        rule = good.collects.rule;
+        heap = good.collects.heap;
+        parts = λ j k u q s. let a = came j k u q s in
+            good.collects.parts a.seat a.place a.old q a.stood;
+      };
     }
 
   module _ (other : ℕ) (w : View U) (apart : other ≢ id) (there : get_elem? c.views other ≡ some w) where
@@ -191,11 +215,15 @@ module _ {U : Type 0} (lawful : U → PlainStore → Type 0) (allowed : U → Pl
           let a = merged j k u q s in
           let b = merged m n u' q' s' in
           let e = good.apart a.seat a.place b.seat b.place a.old b.old q q' a.stood b.stood same in
-          let e0 : a.seat ≡ b.seat = e.0 in
-          let e1 : a.place ≡ b.place = e.1 in
-          let ha = a.how in
-          let hb = b.how in
-          grind arith;
+          join_once id other (length v.parts) j k a.seat a.place m n b.seat b.place apart a.how b.how e.0 e.1;
+      collects = record {
+        state = good.collects.state;
+        moves = good.collects.moves;
+        rule = good.collects.rule;
+        heap = good.collects.heap;
+        parts = λ j k u q s. let a = merged j k u q s in
+            good.collects.parts a.seat a.place a.old q a.stood;
+      };
     }
 
     -- a caller whose seat was joined stays, as it is, behind those of the seat that took it

@@ -30,19 +30,21 @@ pub use Rattle.hm_model.specs.declared.object.Start.{Start}
 pub use Rattle.hm_model.proofs.EffectFacts.{there_contents, field_rises, there_after}
 pub use Rattle.hm_model.proofs.HistoryFacts.{store_after-append, well_made_legal, made_count-legal, calls_of-append, all_stand_parts, all_come_parts, lawful_more}
 pub use Rattle.hm_model.proofs.StoreFacts.{contents_of-changed, contents_of-changed_other, is_same-self, is_same-other, contents_of-push, contents_of-push_new}
+pub use Rattle.hm_moves.specs.Cycles.{is_version, is_kept}
+pub use Rattle.hm_moves.specs.Shifts.{nothing_written}
 pub use Rattle.hm_moves.specs.Acts.{looked_at, want_of, next_version, word_of, entry_of, publishes, finds, looked_word, listed, where_zero, becomes}
-pub use Rattle.hm_moves.specs.After.{index_with, heap_after, row_of_part, is_version, without, with_held, is_naming, unless_named, unnamed_from, unnamed, nothing_written, letting, count_of, written_with, hands_after, part_after, seen_after, view, view_after}
-pub use Rattle.hm_moves.specs.Allowed.{AreKnown, IsKnownField, IsGiven, IsKnownName, Reads, Turns, IsFirst, MayTake, Enabled, IsLawfulMove, TurnsBy, HasRoom, MayLookInto, Spells, IsWritten, IsBuilt, MayBegin, MayLink, MayLook, Names, IsWritable, IsWordOf, done_seen}
+pub use Rattle.hm_moves.specs.After.{index_with, heap_after, row_of_part, without, with_held, is_naming, unless_named, unnamed_from, unnamed, letting, count_of, written_with, hands_after, part_after, seen_after, view, view_after}
+pub use Rattle.hm_moves.specs.Allowed.{HoldsClean, IsLaterThan, MayShorten, AreKnown, IsKnownField, IsGiven, IsKnownName, Reads, Turns, IsFirst, MayTake, Enabled, IsLawfulMove, TurnsBy, HasRoom, MayLookInto, Spells, IsWritten, IsBuilt, MayBegin, MayLink, MayLook, Names, IsWritable, IsWordOf, done_limit}
 pub use Rattle.hm_moves.specs.Chain.{Index, IsPublished, with_one, link_of, IsLinked, AreChained, lookup, Refers, reference_at, words_at, AreTrue, HasContents, Follows}
 pub use Rattle.hm_moves.specs.FirstWords.{AreFirst, LaysSide, count_word, first_words, head_words, known_words, laid_words}
-pub use Rattle.hm_moves.specs.Fresh.{starting_known, side_known, common_known, all_known, fresh_index, fresh_used, fresh_part, IsFreshCore, fresh_places}
+pub use Rattle.hm_moves.specs.Fresh.{HasHead, fresh_roles, starting_known, side_known, common_known, all_known, fresh_index, fresh_used, fresh_part, IsFreshCore, fresh_places}
 pub use Rattle.hm_moves.specs.Good.{Core, Good, Carries, HeapIsGood, PartIsGood, Begins, AreBelow, AreApart, longer, HasCalls, released, AreIndexed, published_of, split, joined, joined_view, spent_view, applied}
-pub use Rattle.hm_moves.specs.Places.{Heap, row_count, total, rank_limit, only_to, ArePlaced, AreRanked, HasHead, IsOwn, Places, raised, places_with, IsSizedVersion, row_of, IsFit}
+pub use Rattle.hm_moves.specs.Places.{Heap, row_count, total, rank_limit, ArePlaced, AreRanked, IsOwn, Places, raised, places_with, IsSizedVersion, row_of, IsFit}
 pub use Rattle.hm_moves.specs.Safe.{IsForward, KeepsChains, KeepsRanks, IsSafe, Leads, here, moved, let_go, cut, met}
 pub use Rattle.hm_moves.specs.Told.{IsReference, IsLink, Found, Told}
 pub use Rattle.hm_moves.specs.declared.moving.Act.{Act}
-pub use Rattle.hm_moves.specs.declared.moving.Act.TheVariants.{Looks, Builds}
-pub use Rattle.hm_moves.specs.declared.moving.Build.TheVariants.{StoreOwn, Publish, LinkStore}
+pub use Rattle.hm_moves.specs.declared.moving.Act.TheVariants.{Looks, Builds, Ticks, Shifts}
+pub use Rattle.hm_moves.specs.declared.moving.Build.TheVariants.{StoreOwn, Publish, LinkStore, Shorten}
 pub use Rattle.hm_moves.specs.declared.moving.Look.{Look}
 pub use Rattle.hm_moves.specs.declared.moving.Look.TheVariants.{LoadStamp, LoadReference, LoadNumber, LoadLink}
 pub use Rattle.hm_moves.specs.declared.moving.Move.{Move}

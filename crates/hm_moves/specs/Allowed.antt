@@ -1,5 +1,14 @@
 -- Which moves a caller may make, by what it has seen and knows itself.
-use Rattle.std.specs.Prelude.{◌≡◌, ◌≢◌, ℕ, ◌+◌, ◌<◌, ◌≤◌, ◌⊎◌, true, List, length, slice_index, slice_index_or, Option, Some, None, IsSome, IfSome, Contains, All}
+use Rattle.std.specs.Prelude.{◌≡◌, ◌≢◌, ℕ, suc, ◌+◌, ◌^◌, ◌<◌, ◌≤◌, ◌⊎◌, Bool, true, false, List, filter, length, take, slice_index, slice_index_or, Option, Some, None, IsSome, IfSome, Contains, All, if◌then◌else◌}
+use Rattle.hm_shape.specs.declared.reply.Reply.{Reply}
+use Rattle.hm_shape.specs.declared.reply.ReplyKind.{ReplyKind}
+use Rattle.hm_shape.specs.declared.reply.ReplyKind.TheVariants.{Joined, Clean, Dirty}
+use Rattle.hm_shape.specs.declared.roles.Role.{Role}
+use Rattle.hm_shape.specs.declared.roles.Role.TheVariants.{From}
+use Rattle.hm_shape.specs.declared.roles.Roles.{Roles}
+use Rattle.hm_shape.specs.declared.shape.Shape.{Shape}
+use Rattle.hm_shape.specs.declared.stage.Phase.{Phase}
+use Rattle.hm_shape.specs.declared.stage.Phase.TheVariants.{Idle, Join, First, Second}
 use Rattle.hm_shape.specs.Layout.{first_number, first_reference, link_at, stamp_at, version_words}
 use Rattle.hm_shape.specs.Words.{naming_word}
 use Rattle.hm_model.specs.declared.object.Name.{Name}
@@ -15,16 +24,25 @@ use Rattle.hm_model.specs.History.{store_of, create_count}
 use Rattle.hm_model.specs.Lawful.{MayMake}
 use Rattle.hm_moves.specs.declared.part.Known.{Known}
 use Rattle.hm_moves.specs.declared.part.Part.{Part}
+use Rattle.hm_moves.specs.declared.part.Seen.{Seen}
 use Rattle.hm_moves.specs.declared.moving.Look.{Look}
 use Rattle.hm_moves.specs.declared.moving.Look.TheVariants.{LoadStamp, LoadReference, LoadNumber, LoadLink}
 use Rattle.hm_moves.specs.declared.moving.Build.{Build}
-use Rattle.hm_moves.specs.declared.moving.Build.TheVariants.{StoreOwn, Publish, LinkStore}
+use Rattle.hm_moves.specs.declared.moving.Build.TheVariants.{StoreOwn, Publish, LinkStore, Shorten}
+use Rattle.hm_moves.specs.declared.moving.Tick.{Tick}
+use Rattle.hm_moves.specs.declared.moving.Tick.TheVariants.{LoadStage, MoveStage, LoadReply, StoreReply}
+use Rattle.hm_moves.specs.declared.moving.Shift.{Shift}
+use Rattle.hm_moves.specs.declared.moving.Shift.TheVariants.{LoadRoles}
+use Rattle.hm_moves.specs.declared.moving.Shift.TheVariants.{Join as JoinIn, Turn, Reuse}
 use Rattle.hm_moves.specs.declared.moving.Act.{Act}
-use Rattle.hm_moves.specs.declared.moving.Act.TheVariants.{Looks, Builds}
+use Rattle.hm_moves.specs.declared.moving.Act.TheVariants.{Looks, Builds, Ticks, Shifts}
 use Rattle.hm_moves.specs.declared.moving.Move.{Move}
-use Rattle.hm_moves.specs.Chain.{reference_at}
+use Rattle.hm_moves.specs.Chain.{IsPublished, reference_at, words_at}
+use Rattle.hm_moves.specs.Places.{Heap}
 use Rattle.hm_moves.specs.Acts.{next_version, want_of, looked_at}
 use Rattle.hm_moves.specs.After.{is_naming}
+use Rattle.hm_moves.specs.Cycles.{has_masks, holds_from, is_free, is_open, known_from, role_at}
+use Rattle.hm_moves.specs.Shifts.{frees, joined_role, joined_roles, reused_roles, turned_roles}
 
 -- word j of a draft is written
 abbrev pub IsWritten : List (Option ℕ) → ℕ → ℕ → Type 0
@@ -75,6 +93,23 @@ IsWordOf (LoadReference at i) = i < 4
 IsWordOf (LoadNumber at i) = i < 10
 IsWordOf (LoadLink at want) = Unit {0}
 
+-- so many cycles are done once the stage has gone to a phase
+abbrev pub done_in : ℕ → Phase → ℕ
+done_in done Idle = done + 1
+done_in done Join = done
+done_in done First = done
+done_in done Second = done
+
+-- a version is later, in a heap, than the one that a word of another names: of the same object, and
+-- of a greater rank
+pub record IsLaterThan (s : Shape) (h : Heap) (at : Known) (i : ℕ) (target : Known)
+    : Type 0 where
+  pub was : Known
+  pub published : IsPublished h.index was
+  pub named : words_at s h.words at i ≡ naming_word (Some was.version)
+  pub same : target.name ≡ was.name
+  pub rank : was.rank < target.rank
+
 module _ {U : Type 0} where
   -- a caller may look into a version that it holds, and into its own of To and Old
   abbrev pub MayLookInto : Part U → Known → Type 0
@@ -92,9 +127,9 @@ module _ {U : Type 0} where
   abbrev pub HasHand : Part U → Type 0
   HasHand p = length p.hands.held < most_held
 
-  -- so many cycles a caller has seen done: none until there is a collector
-  abbrev pub done_seen : Part U → ℕ
-  done_seen p = 0
+  -- at most so many cycles are done, by what a caller has seen: one ends without it at most
+  abbrev pub done_limit : Part U → ℕ
+  done_limit p = p.cycle.clock.stage.done + 1
 
   -- words of the caller's next version are written, from one on
   abbrev pub AreWrittenFrom : Part U → ℕ → Type 0
@@ -172,8 +207,113 @@ module _ {U : Type 0} where
   MayHold p (Builds (StoreOwn i word)) = Unit {0}
   MayHold p (Builds (Publish fresh)) = HasHand p
   MayHold p (Builds (LinkStore at fresh entry)) = HasHand p
+  MayHold p (Builds (Shorten at i target)) = Unit {0}
+  MayHold p (Ticks t) = Unit {0}
+  MayHold p (Shifts f) = Unit {0}
 
-  module _ (known : Name → Type 0) (make : Entry → Type 0) where
+  -- every caller has replied so to the stage that this one has seen, by the replies that it loaded
+  abbrev pub HaveReplied : Part U → ReplyKind → Type 0
+  HaveReplied p kind = (q : ℕ) → q < p.site.shape.callers
+      → slice_index_or p.cycle.clock.replies q None
+      ≡ Some record { number = p.cycle.clock.stage.number; kind = kind }
+
+  -- a caller has replied to it in some way
+  pub record HasReplied (p : Part U) (q : ℕ) : Type 0 where
+    pub kind : ReplyKind
+    pub is : slice_index_or p.cycle.clock.replies q None
+        ≡ Some record { number = p.cycle.clock.stage.number; kind = kind }
+
+  -- every caller has, and one of them is marked
+  pub record IsMarked (p : Part U) : Type 0 where
+    pub all : (q : ℕ) → q < p.site.shape.callers → HasReplied p q
+    pub caller : ℕ
+    pub below : caller < p.site.shape.callers
+    pub dirty : slice_index_or p.cycle.clock.replies caller None
+        ≡ Some record { number = p.cycle.clock.stage.number; kind = Dirty }
+
+  -- the stage goes on from a phase to another over these replies; a restart is allowed at any time
+  abbrev pub MayGo : Part U → Phase → Phase → Type 0
+  MayGo p Idle Idle = ⊥
+  MayGo p Idle Join = p.cycle.clock.stage.done < 1073741823
+  MayGo p Idle First = ⊥
+  MayGo p Idle Second = ⊥
+  MayGo p Join Idle = ⊥
+  MayGo p Join Join = Unit {0}
+  MayGo p Join First = HaveReplied p Joined
+  MayGo p Join Second = ⊥
+  MayGo p First Idle = ⊥
+  MayGo p First Join = Unit {0}
+  MayGo p First First = ⊥
+  MayGo p First Second = HaveReplied p Clean
+  MayGo p Second Idle = HaveReplied p Clean
+  MayGo p Second Join = Unit {0}
+  MayGo p Second First = IsMarked p
+  MayGo p Second Second = ⊥
+
+  -- a caller may move the stage that it has seen to the next one
+  pub record MayMoveStage (p : Part U) (from to : Seen) : Type 0 where
+    pub seen : from ≡ p.cycle.clock.stage
+    pub number : to.number ≡ from.number + 1
+    pub below : to.number < 2 ^ 32
+    pub fits : to.done < 2 ^ 30
+    pub done : to.done ≡ done_in from.done to.phase
+    pub goes : MayGo p from.phase to.phase
+
+  -- a role is the lowest of a caller's that passes a test
+  pub record IsLowest (p : Part U) (test : Role → Bool) (region : ℕ) : Type 0 where
+    pub below : region < p.site.shape.regions
+    pub passes : test (role_at p.cycle.ties.roles region) ≡ true
+    pub lowest : (g : ℕ) → g < region → test (role_at p.cycle.ties.roles g) ≡ false
+
+  -- a caller may join where it has seen a Join and not replied to it, and takes the lowest region
+  -- that is Free then
+  pub record MayJoin (p : Part U) (region : ℕ) (roles : Roles) : Type 0 where
+    pub phase : p.cycle.clock.stage.phase ≡ Join
+    pub open_yet : is_open p ≡ true
+    pub takes : IsLowest p (λ role. is_free (joined_role (frees p) role)) region
+    pub is : roles ≡ joined_roles p region
+
+  -- so many regions of a caller are Free
+  abbrev pub free_count : Part U → ℕ
+  free_count p =
+      length (filter is_free (take p.site.shape.regions p.cycle.ties.roles.0))
+
+  -- a caller keeps a Free region for its next join, and one more where it has not joined
+  abbrev pub kept_free : Part U → ℕ
+  kept_free p = if p.cycle.ties.joined then 1 else 2
+
+  -- it may turn where its To region is full, and it has one Free region more than it keeps
+  pub record MayTurn (p : Part U) (region : ℕ) (roles : Roles) : Type 0 where
+    pub full : p.draft.used ≡ p.site.shape.versions
+    pub reserve : kept_free p < free_count p
+    pub takes : IsLowest p is_free region
+    pub is : roles ≡ turned_roles p region
+
+  -- it may free what it gave up in a cycle that is done, where it has such a region
+  pub record MayReuse (p : Part U) (roles : Roles) : Type 0 where
+    pub frees : frees p ≡ true
+    pub region : ℕ
+    pub below : region < p.site.shape.regions
+    pub from : role_at p.cycle.ties.roles region ≡ From
+    pub is : roles ≡ reused_roles p
+
+  -- a caller may load the roles of every caller, and store its own by a join, a turn or a reuse
+  abbrev pub MayShift : Part U → Shift → Type 0
+  MayShift p (LoadRoles of) = of < p.site.shape.callers
+  MayShift p (JoinIn region roles) = MayJoin p region roles
+  MayShift p (Turn region roles) = MayTurn p region roles
+  MayShift p (Reuse roles) = MayReuse p roles
+
+  -- a caller's copy is of a version that it knows as from-space
+  abbrev pub MayCopy : Part U → Known → Option Entry → Type 0
+  MayCopy p at None = known_from p at.version ≡ true
+  MayCopy p at (Some e) = Unit {0}
+
+  -- what a caller does may stand on this: which names are known, which entries it may make, whether
+  -- its holding has nothing of from-space, and whether a version is later than the one that a word
+  -- of another names
+  module _ (known : Name → Type 0) (make : Entry → Type 0) (clean : Type 0)
+      (comes_later : Known → ℕ → Known → Type 0) where
     -- a caller may load a word of a version that it may look into, and want an entry that reads it
     pub record MayLook (p : Part U) (l : Look) : Type 0 where
       pub look : MayLookInto p (looked_at l)
@@ -190,19 +330,59 @@ module _ {U : Type 0} where
     pub record MayLink (p : Part U) (at fresh : Known) (entry : Option Entry) : Type 0 where
       pub look : MayLookInto p at
       pub later : IsLater p at fresh
+      pub copies : MayCopy p at entry
       pub turns : TurnsBy known p at fresh.contents entry
       pub may : IfSome entry make
+
+    -- and may store in a link or a reference of its own a later version that it holds, and that is
+    -- not of from-space
+    pub record MayShorten (p : Part U) (at : Known) (i : ℕ) (target : Known) : Type 0 where
+      pub own : Contains p.hands.own at
+      pub word : is_naming i ≡ true
+      pub held : Contains p.hands.held target
+      pub kept : known_from p target.version ≡ false
+      pub later : comes_later at i target
 
     -- a caller may build
     abbrev pub MayBuild : Part U → Build → Type 0
     MayBuild p (StoreOwn i word) = IsWritable p i word
     MayBuild p (Publish fresh) = MayBegin p fresh
     MayBuild p (LinkStore at fresh entry) = MayLink p at fresh entry
+    MayBuild p (Shorten at i target) = MayShorten p at i target
+
+    -- a caller may reply so in a phase: to Join where it has joined in it, to First Clean alone, and
+    -- to Second by its mark
+    abbrev pub MayReply : Part U → Phase → ReplyKind → Type 0
+    MayReply p Idle kind = ⊥
+    MayReply p Join Joined = p.cycle.ties.join ≡ Some p.cycle.clock.stage.number
+    MayReply p Join Clean = ⊥
+    MayReply p Join Dirty = ⊥
+    MayReply p First Joined = ⊥
+    MayReply p First Clean = (has_masks p ≡ true) × clean
+    MayReply p First Dirty = ⊥
+    MayReply p Second Joined = ⊥
+    MayReply p Second Clean = p.cycle.scan.mark ≡ false
+    MayReply p Second Dirty = p.cycle.scan.mark ≡ true
+
+    -- and once to a stage
+    pub record MayStoreReply (p : Part U) (reply : Reply) : Type 0 where
+      pub number : reply.number ≡ p.cycle.clock.stage.number
+      pub open_yet : is_open p ≡ true
+      pub kind : MayReply p p.cycle.clock.stage.phase reply.kind
+
+    -- a caller may load the stage and replies at any time
+    abbrev pub MayTick : Part U → Tick → Type 0
+    MayTick p LoadStage = Unit {0}
+    MayTick p (MoveStage from to) = MayMoveStage p from to
+    MayTick p (LoadReply of) = of < p.site.shape.callers
+    MayTick p (StoreReply reply) = MayStoreReply p reply
 
     -- a caller may take an act, where these names are known and it may make these entries
     abbrev pub MayTake : Part U → Act → Type 0
     MayTake p (Looks l) = MayLook p l
     MayTake p (Builds b) = MayBuild p b
+    MayTake p (Ticks t) = MayTick p t
+    MayTake p (Shifts f) = MayShift p f
 
     -- and a move, where it may hold what comes and holds what it lets go of
     pub record MayMove (p : Part U) (m : Move) : Type 0 where
@@ -210,15 +390,25 @@ module _ {U : Type 0} where
       pub holds : MayHold p m.act
       pub let_go : IfSome m.let_go (Contains p.hands.held)
 
+  -- the holding of a caller has what it holds, and what its own versions name by these words; it
+  -- is clean where nothing of it is known as from-space
+  pub record HoldsClean (words : List ℕ) (p : Part U) : Type 0 where
+    pub held : holds_from p ≡ false
+    pub named : (k : Known) (i v : ℕ) → Contains p.hands.own k → is_naming i ≡ true
+        → words_at p.site.shape words k i ≡ suc v → known_from p record { 0 = v } ≡ false
+
   module _ (lawful : U → PlainStore → Type 0) (allowed : U → PlainStore → Entry → Type 0) where
-    -- a caller's move is enabled by what it has seen and knows itself
+    -- a caller's move is enabled by what it has seen and knows itself. No call shortens yet
     abbrev pub Enabled : List Entry → Part U → Move → Type 0
     Enabled seen p m =
         MayMove (IsKnownName p)
-        (MayMake (lawful p.site.usage) (allowed p.site.usage) seen p.number) p m
+        (MayMake (lawful p.site.usage) (allowed p.site.usage) seen p.number)
+        (p.cycle.scan.bare ≡ true) (λ at i target. ⊥) p m
 
-    -- it is lawful by the whole history: the names are there, and an entry that stands is allowed
-    abbrev pub IsLawfulMove : List Entry → Part U → Move → Type 0
-    IsLawfulMove history p m =
-        MayMove (IsThere (store_of history))
-        (λ e. Stands (store_of history) e → allowed p.site.usage (store_of history) e) p m
+    -- it is lawful by the whole heap: the names are there, an entry that stands is allowed, and the
+    -- words say what is clean and what is later
+    abbrev pub IsLawfulMove : Heap → Part U → Move → Type 0
+    IsLawfulMove h p m =
+        MayMove (IsThere (store_of h.history))
+        (λ e. Stands (store_of h.history) e → allowed p.site.usage (store_of h.history) e)
+        (HoldsClean h.words p) (IsLaterThan p.site.shape h) p m

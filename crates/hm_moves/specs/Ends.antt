@@ -21,7 +21,7 @@ pub record EndsAfter (s : Shape) (h : Heap) (k : Known) (n : ℕ) : Type 0 where
 
 -- behind each published version its chain ends, after at most as many links as ranks are below the
 -- limit
-pub record ChainsEnd (s : Shape) (h : Heap) (done : ℕ) : Type 0 where
+pub record ChainsEnd (s : Shape) (h : Heap) : Type 0 where
   pub ends : (k : Known) → IsPublished h.index k → (n : ℕ) × EndsAfter s h k n
   pub few : (k : Known) (n : ℕ) → IsPublished h.index k → EndsAfter s h k n
-      → n ≤ rank_limit s done
+      → n ≤ rank_limit s h.places.done

@@ -2,20 +2,19 @@
 use Rattle.std.specs.Prelude.{◌≡◌, ℕ, ◌+◌, ◌-◌, List, [], ◌∷◌, ◌++◌, length, map, replicate, Option, Some, None}
 use Rattle.std.specs.List.{flat_map}
 use Rattle.hm_shape.specs.declared.shape.Shape.{Shape}
-use Rattle.hm_shape.specs.Words.{word_count}
+use Rattle.hm_shape.specs.Words.{word_count, roles_word}
 use Rattle.hm_model.specs.declared.object.Name.{Name}
 use Rattle.hm_model.specs.declared.object.Start.{Start}
 use Rattle.hm_model.specs.Store.{Numbers}
 use Rattle.hm_model.specs.History.{side_names, IsSizedStart}
 use Rattle.hm_moves.specs.declared.part.Known.{Known}
 use Rattle.hm_moves.specs.Chain.{IsPublished, AreTrue, link_of}
-use Rattle.hm_moves.specs.Places.{HasHead, only_to}
-use Rattle.hm_moves.specs.Fresh.{all_known, fresh_index, side_known}
+use Rattle.hm_moves.specs.Fresh.{all_known, fresh_index, side_known, HasHead, fresh_roles}
 
 -- the stage is 0, and so is each caller's reply; each caller's roles are those of To at region 0
 -- alone
 abbrev pub head_words : Shape → List ℕ
-head_words s = replicate (s.callers + 1) 0 ++ replicate s.callers (only_to 0)
+head_words s = replicate (s.callers + 1) 0 ++ replicate s.callers (roles_word fresh_roles)
 
 -- a reference to a starting object is the word that names its version, which has the object's count
 -- as number
@@ -41,7 +40,7 @@ first_words s start =
 pub record AreFirst (s : Shape) (start : Start) (words : List ℕ) : Type 0 where
   pub sized : IsSizedStart start
   pub wide : length words ≡ word_count s
-  pub head : HasHead s (λ q. 0) words
+  pub head : HasHead s words
   pub contents : AreTrue s words (fresh_index start)
   pub links : (k : Known) → IsPublished (fresh_index start) k → link_of s words k ≡ 0
 

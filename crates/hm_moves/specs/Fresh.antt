@@ -1,20 +1,26 @@
 -- The fresh machine: the starting objects are caller 0's first versions, and all have seen them.
-use Rattle.std.specs.Prelude.{◌≡◌, ℕ, ◌+◌, ◌<◌, ◌==◌, List, [], ◌∷◌, ◌++◌, length, slice_get, Option, Some, None, if◌then◌else◌, replicate}
+use Rattle.std.specs.Prelude.{◌≡◌, ℕ, ◌+◌, ◌%◌, ◌<◌, ◌==◌, false, List, [], ◌∷◌, ◌++◌, length, slice_get, slice_index, slice_set, Option, Some, None, if◌then◌else◌, replicate}
 use mathlib.Core.Option.{some}
 use lib.ListN.{get_elem?}
-use Rattle.hm_shape.specs.Words.{word_count}
+use Rattle.hm_shape.specs.declared.roles.Role.TheVariants.{Free, To}
+use Rattle.hm_shape.specs.declared.roles.Roles.{Roles}
+use Rattle.hm_shape.specs.declared.shape.Shape.{Shape}
+use Rattle.hm_moves.specs.declared.part.Seen.{Seen}
+use Rattle.hm_shape.specs.Words.{stage_at, reply_at, roles_at, roles_word, word_count}
 use Rattle.hm_model.specs.declared.object.Contents.{Contents}
 use Rattle.hm_model.specs.declared.object.Start.{Start}
 use Rattle.hm_model.specs.Store.{Numbers}
 use Rattle.hm_model.specs.Effect.{new_contents}
 use Rattle.hm_model.specs.History.{calls_of, opening_of, side_count, side_names, starting_count, starting_name}
+use Rattle.hm_moves.specs.declared.part.Cycle.{Cycle}
 use Rattle.hm_moves.specs.declared.part.Known.{Known}
 use Rattle.hm_moves.specs.declared.part.Site.{Site}
 use Rattle.hm_moves.specs.declared.part.Part.{Part}
 use Rattle.hm_moves.specs.declared.part.View.{View}
 use Rattle.hm_moves.specs.Chain.{Index, IsPublished, AreTrue, link_of}
-use Rattle.hm_moves.specs.Places.{Heap, HasHead, Places}
-use Rattle.hm_moves.specs.After.{nothing_written}
+use Rattle.hm_moves.specs.Places.{Heap, Places}
+use Rattle.hm_moves.specs.Decoding.{stage_in}
+use Rattle.hm_moves.specs.Shifts.{nothing_written}
 use Rattle.hm_moves.specs.Good.{Core, Carries}
 
 -- a starting object is known by its number, which is that of its version too
@@ -52,20 +58,56 @@ abbrev pub fresh_used : Start → ℕ → ℕ
 fresh_used start row = if row == 0 then starting_count start else 0
 
 -- nothing was freed yet, and each caller writes into its first region
-abbrev pub fresh_places : Start → Places
-fresh_places start = record {
+abbrev pub fresh_places : Shape → Start → Places
+fresh_places s start = record {
   used = fresh_used start;
   made = fresh_used start;
   freed = λ row. 0;
-  to = λ q. 0;
+  role = λ row. if row % s.regions == 0 then To else Free;
+  dead = λ row. false;
+  done = 0;
+}
+
+-- the roles of a caller that writes into its first region
+abbrev pub fresh_roles : Roles
+fresh_roles = record { 0 = slice_set (replicate 8 Free) 0 To }
+
+-- the stage is Idle, of number 0, and no cycle is done
+abbrev pub fresh_stage : Seen
+fresh_stage = stage_in 0
+
+-- the head words say so, and that nobody has replied
+pub record HasHead (s : Shape) (words : List ℕ) : Type 0 where
+  pub stage : slice_index words stage_at ≡ 0
+  pub replies : (q : ℕ) → q < s.callers → slice_index words (reply_at q) ≡ 0
+  pub roles : (q : ℕ) → q < s.callers
+      → slice_index words (roles_at s q) ≡ roles_word fresh_roles
+
+-- a caller that has seen the fresh stage alone knows nothing else
+abbrev pub fresh_cycle : Shape → Cycle
+fresh_cycle s = record {
+  clock = record {
+    stage = fresh_stage;
+    reply = None;
+    replies = replicate s.callers None;
+    moves = 0;
+  };
+  ties = record { roles = fresh_roles; joined = false; join = None; done = 0 };
+  scan = record {
+    masks = replicate s.callers None;
+    mark = false;
+    cursor = 0;
+    ends = [];
+    bare = false;
+  };
 }
 
 -- a fresh heap has the head words, theirs, and no links
 pub record IsFreshHeap {U : Type 0} (g : Site U) (h : Heap) : Type 0 where
   pub wide : length h.words ≡ word_count g.shape
   pub index : h.index ≡ fresh_index g.start
-  pub places : h.places ≡ fresh_places g.start
-  pub head : HasHead g.shape h.places.to h.words
+  pub places : h.places ≡ fresh_places g.shape g.start
+  pub head : HasHead g.shape h.words
   pub history : h.history ≡ opening_of g.start
   pub contents : AreTrue g.shape h.words h.index
   pub links : (k : Known) → IsPublished h.index k → link_of g.shape h.words k ≡ 0
@@ -87,7 +129,7 @@ module _ {U : Type 0} where
       left = [];
     };
     calls = record { mine = calls_of q (opening_of g.start) };
-    cycle = record {};
+    cycle = fresh_cycle g.shape;
   }
 
   -- a fresh machine has a fresh heap, and views of fresh callers, none of them carried twice

@@ -1,9 +1,11 @@
 -- What holds of the machine between any two moves, and how seats are split and joined.
-use Rattle.std.specs.Prelude.{◌≡◌, ℕ, ◌<◌, true, false, List, [], ◌∷◌, ◌++◌, length, slice_index, slice_set, Option, Contains, All, nat_lt, if◌then◌else◌}
+use Rattle.std.specs.Prelude.{◌≡◌, ℕ, ◌/◌, ◌<◌, true, false, List, [], ◌∷◌, ◌++◌, length, slice_index, slice_set, Option, Contains, All, nat_lt, if◌then◌else◌}
 use Rattle.std.specs.List.{list_any}
 use mathlib.Core.Option.{some}
 use lib.ListN.{get_elem?}
+use Rattle.hm_shape.specs.declared.roles.Role.TheVariants.{To, From}
 use Rattle.hm_shape.specs.declared.shape.Shape.{Shape}
+use Rattle.hm_shape.specs.declared.version.Version.{Version}
 use Rattle.hm_shape.specs.Layout.{version_words}
 use Rattle.hm_shape.specs.Versions.{version_at}
 use Rattle.hm_shape.specs.Words.{word_at, word_count}
@@ -21,9 +23,13 @@ use Rattle.hm_moves.specs.declared.part.Part.{Part}
 use Rattle.hm_moves.specs.declared.part.View.{View}
 use Rattle.hm_moves.specs.declared.moving.Move.{Move}
 use Rattle.hm_moves.specs.Chain.{Index, IsPublished, AreChained, AreTrue}
-use Rattle.hm_moves.specs.Places.{Heap, ArePlaced, AreRanked, HasHead, IsOwn, row_of}
+use Rattle.hm_moves.specs.Places.{Heap, Places, ArePlaced, AreRanked, IsOwn, LiesIn, row_of}
 use Rattle.hm_moves.specs.Acts.{word_of, finds}
-use Rattle.hm_moves.specs.After.{heap_after, is_naming, is_version, view, view_after, view_letting}
+use Rattle.hm_moves.specs.After.{heap_after, is_naming, view, view_after, view_letting}
+use Rattle.hm_moves.specs.Cycles.{is_kept, is_version}
+use Rattle.hm_moves.specs.Showing.{ShowsHeap, ShowsPart}
+use Rattle.hm_rounds.specs.State.{State}
+use Rattle.hm_rounds.specs.Rule as rounds
 use Rattle.hm_moves.specs.Allowed.{IsWritten, Names}
 
 -- a list begins with another
@@ -53,18 +59,29 @@ published_of hands = hands.left ++ hands.own
 pub record IsDrafting (s : Shape) (q : ℕ) (d : Draft) (held : List Known) (h : Heap)
     : Type 0 where
   pub region : d.region < s.regions
-  pub to : d.region ≡ h.places.to q
+  pub to : h.places.role (row_of s q d.region) ≡ To
+  pub live : h.places.dead (row_of s q d.region) ≡ false
   pub used : d.used ≡ h.places.used (row_of s q d.region)
   pub wide : length d.written ≡ version_words
   pub written : d.used < s.versions → (j w : ℕ) → IsWritten d.written j w
       → slice_index h.words (word_at s (version_at s q d.region d.used) j) ≡ w
   pub named : (j w : ℕ) → is_naming j ≡ true → IsWritten d.written j w → Names held w
 
+-- a version lies in a row
+abbrev pub row_in : Shape → Version → ℕ
+row_in s v = v.0 / s.versions
+
 -- what a caller holds is published; and it lists just the published versions of its own regions,
--- each once
-pub record AreIndexed (s : Shape) (q : ℕ) (index : Index) (hands : Hands) : Type 0 where
+-- each once: those of To and Old, and those of From, of which the dead are listed still
+pub record AreIndexed (s : Shape) (q : ℕ) (index : Index) (places : Places) (hands : Hands)
+    : Type 0 where
   pub held : (k : Known) → Contains hands.held k → IsPublished index k
-  pub own : (k : Known) → Contains (published_of hands) k → IsOwn s q index k
+  pub own : (k : Known) → Contains hands.own k → IsOwn s q index k
+  pub kept : (k : Known) → Contains hands.own k → is_kept (places.role (row_in s k.version)) ≡ true
+  pub left : (k : Known) → Contains hands.left k → LiesIn s q k
+  pub given : (k : Known) → Contains hands.left k → places.role (row_in s k.version) ≡ From
+  pub alive : (k : Known) → Contains hands.left k → places.dead (row_in s k.version) ≡ false
+      → IsPublished index k
   pub all : (k : Known) → IsOwn s q index k → Contains (published_of hands) k
   pub once : AreApart (published_of hands)
 
@@ -95,7 +112,7 @@ module _ {U : Type 0} where
     pub site : p.site ≡ g
     pub number : p.number < g.shape.callers
     pub draft : IsDrafting g.shape p.number p.draft p.hands.held h
-    pub hands : AreIndexed g.shape p.number h.index p.hands
+    pub hands : AreIndexed g.shape p.number h.index h.places p.hands
     pub calls : HasCalls g.start p.number p.calls.mine h.history seen
 
   -- the machine after a move of the seat `id`, by its caller at a place
@@ -113,19 +130,29 @@ module _ {U : Type 0} where
   released c id place v p let_go =
       record c { views = slice_set c.views id (view_letting v place p let_go) }
 
+  -- the rules of use again hold of a state that heap and callers show
+  pub record Collects (g : Site U) (c : Core U) : Type 0 where
+    pub state : State
+    -- how often each caller has moved the stage
+    pub moves : ℕ → ℕ
+    pub rule : rounds.Good state
+    pub heap : ShowsHeap g.shape c.heap moves state
+    pub parts : (j k : ℕ) (v : View U) (p : Part U) → Carries c.views j k v p
+        → ShowsPart g.shape moves state p
+
   module _ (lawful : U → PlainStore → Type 0) (allowed : U → PlainStore → Entry → Type 0) where
-    -- what is kept of the heap, while no cycle is done
+    -- what is kept of the heap
     pub record HeapIsGood (g : Site U) (h : Heap) : Type 0 where
       pub wide : length h.words ≡ word_count g.shape
-      pub head : HasHead g.shape h.places.to h.words
-      pub placed : ArePlaced g.shape h.index h.places.used
-      pub ranked : AreRanked g.shape h.index h.places 0
+      pub placed : ArePlaced g.shape h.index h.places.dead h.places.used
+      pub ranked : AreRanked g.shape h.index h.places
       pub contents : AreTrue g.shape h.words h.index
       pub chained : AreChained g.shape h.words h.index (store_of h.history)
       pub history : IsLawful (lawful g.usage) (allowed g.usage) g.start h.history
       pub callers : AreBelow g.shape.callers h.history
 
-    -- what is kept between any two moves: no caller is carried twice
+    -- what is kept between any two moves: no caller is carried twice, and the rules of use again
+    -- hold
     pub record Good (g : Site U) (c : Core U) : Type 0 where
       pub heap : HeapIsGood g c.heap
       pub seen : (j : ℕ) (v : View U) → get_elem? c.views j ≡ some v
@@ -134,6 +161,7 @@ module _ {U : Type 0} where
           → PartIsGood g c.heap v.seen p
       pub apart : (j k m n : ℕ) (v w : View U) (p q : Part U) → Carries c.views j k v p
           → Carries c.views m n w q → p.number ≡ q.number → (j ≡ m) × (k ≡ n)
+      pub collects : Collects g c
 
   -- a seat is cut in two: it keeps `left` of its parts, and the new one has `right`
   abbrev pub split : Core U → ℕ → View U → List (Part U) → List (Part U) → Core U

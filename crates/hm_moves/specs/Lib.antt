@@ -1,11 +1,16 @@
 pub mod Chain
 pub mod Places
 pub mod Acts
+pub mod Decoding
+pub mod Cycles
+pub mod Shifts
 pub mod After
 pub mod Allowed
+pub mod Showing
 pub mod Good
 pub mod Told
 pub mod Fresh
 pub mod FirstWords
+pub mod Collecting
 pub mod Safe
 pub mod Ends

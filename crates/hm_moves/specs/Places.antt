@@ -1,10 +1,9 @@
--- The places of a heap's regions: which are used, how many versions were published there, and who
--- owns them.
-use Rattle.std.specs.Prelude.{◌≡◌, ℕ, zero, suc, ◌+◌, ◌*◌, ◌<◌, ◌≤◌, ◌==◌, List, Option, Some, None, IsSome, slice_index, slice_set, replicate, if◌then◌else◌}
+-- The places of a heap's regions: which are used, how many versions were published there, which are
+-- dead, and who owns them.
+use Rattle.std.specs.Prelude.{◌≡◌, ℕ, zero, suc, ◌+◌, ◌*◌, ◌<◌, ◌≤◌, ◌==◌, Bool, true, false, List, Option, Some, None, IsSome, if◌then◌else◌}
 use Rattle.hm_shape.specs.declared.shape.Shape.{Shape}
-use Rattle.hm_shape.specs.declared.roles.Role.TheVariants.{Free, To}
+use Rattle.hm_shape.specs.declared.roles.Role.{Role}
 use Rattle.hm_shape.specs.Versions.{IsAt, IsVersionOf, version_count}
-use Rattle.hm_shape.specs.Words.{stage_at, reply_at, roles_at, roles_word}
 use Rattle.hm_model.specs.declared.entry.Entry.{Entry}
 use Rattle.hm_model.specs.Store.{IsSized}
 use Rattle.hm_moves.specs.declared.part.Known.{Known}
@@ -18,7 +17,7 @@ row_count s = s.callers * s.regions
 abbrev pub row_of : Shape → ℕ → ℕ → ℕ
 row_of s q region = q * s.regions + region
 
--- what is counted of the rows, and which region each caller writes into
+-- what is counted of the rows, what they are used for, and how many cycles are done
 pub record Places : Type 0 where
   -- so many first places of a row are used now
   pub used : ℕ → ℕ
@@ -26,8 +25,12 @@ pub record Places : Type 0 where
   pub made : ℕ → ℕ
   -- so often a row was freed
   pub freed : ℕ → ℕ
-  -- this region of a caller is its To region
-  pub to : ℕ → ℕ
+  -- a row is used for this
+  pub role : ℕ → Role
+  -- a row is From, and was given up in a cycle that is done
+  pub dead : ℕ → Bool
+  -- so many cycles are done
+  pub done : ℕ
 
 -- the sum of a count over the first rows
 abbrev pub total : (ℕ → ℕ) → ℕ → ℕ
@@ -60,21 +63,25 @@ pub record IsFit (s : Shape) (done : ℕ) (k : Known) : Type 0 where
   pub rank : k.rank < rank_limit s done
   pub sized : IsSizedVersion k
 
--- published versions are sized, and lie in just the used places of each row
-pub record ArePlaced (s : Shape) (index : Index) (used : ℕ → ℕ) : Type 0 where
+-- published versions are sized, and lie in just the used places of each row that is not dead
+pub record ArePlaced (s : Shape) (index : Index) (dead : ℕ → Bool) (used : ℕ → ℕ) : Type 0 where
+  pub numbered : (v : ℕ) (k : Known) → index v ≡ Some k → k.version.0 ≡ v
   pub fits : (k : Known) → IsPublished index k → IsVersionOf s k.version
   pub sized : (k : Known) → IsPublished index k → IsSizedVersion k
-  pub taken : (row i : ℕ) → row < row_count s → i < used row → IsSome (index (row * s.versions + i))
+  pub taken : (row i : ℕ) → row < row_count s → dead row ≡ false → i < used row
+      → IsSome (index (row * s.versions + i))
   pub unused : (row i : ℕ) → row < row_count s → i < s.versions → used row ≤ i
+      → index (row * s.versions + i) ≡ None
+  pub empty : (row i : ℕ) → row < row_count s → i < s.versions → dead row ≡ true
       → index (row * s.versions + i) ≡ None
   pub filled : (row : ℕ) → used row ≤ s.versions
 
 -- no rank passes the number of versions that were ever published, and a row is filled once each
 -- time it is free
-pub record AreRanked (s : Shape) (index : Index) (places : Places) (done : ℕ) : Type 0 where
+pub record AreRanked (s : Shape) (index : Index) (places : Places) : Type 0 where
   pub ranks : (k : Known) → IsPublished index k → k.rank < total places.made (row_count s)
   pub made : (row : ℕ) → places.made row ≤ s.versions * places.freed row + places.used row
-  pub freed : (row : ℕ) → places.freed row ≤ done
+  pub freed : (row : ℕ) → places.freed row ≤ places.done
 
 -- a version is a caller's own where it is published, and lies at a place of a region of the caller
 pub record IsOwn (s : Shape) (q : ℕ) (index : Index) (k : Known) : Type 0 where
@@ -83,16 +90,11 @@ pub record IsOwn (s : Shape) (q : ℕ) (index : Index) (k : Known) : Type 0 wher
   pub place : ℕ
   pub at : IsAt s k.version q region place
 
--- the roles of a caller that writes into this region, and has no other in use
-abbrev pub only_to : ℕ → ℕ
-only_to region = roles_word record { 0 = slice_set (replicate 8 Free) region To }
-
--- the head words say: the stage is Idle with number and done count 0, nobody has replied, and each
--- caller has its To region alone in use
-pub record HasHead (s : Shape) (to : ℕ → ℕ) (words : List ℕ) : Type 0 where
-  pub stage : slice_index words stage_at ≡ 0
-  pub replies : (q : ℕ) → q < s.callers → slice_index words (reply_at q) ≡ 0
-  pub roles : (q : ℕ) → q < s.callers → slice_index words (roles_at s q) ≡ only_to (to q)
+-- a version lies at a place of a region of a caller
+pub record LiesIn (s : Shape) (q : ℕ) (k : Known) : Type 0 where
+  pub region : ℕ
+  pub place : ℕ
+  pub at : IsAt s k.version q region place
 
 -- a heap is its words, what it knows of versions, its places, and its history
 pub record Heap : Type 0 where

@@ -16,6 +16,7 @@ use Rattle.hm_moves.specs.Places.{Heap, row_count, total}
 use Rattle.hm_moves.specs.Allowed.{IsLawfulMove}
 use Rattle.hm_moves.specs.Good.{Begins, Core, Carries, applied, released, split, joined}
 use Rattle.hm_moves.specs.Fresh.{IsFreshCore}
+use Rattle.hm_moves.specs.Collecting.{KeepsCycle, KeepsNames, KeepsReach}
 
 -- each published version with link 0 has the contents that the store gives to its name
 pub record KeepsContents (s : Shape) (h : Heap) : Type 0 where
@@ -39,11 +40,11 @@ pub record KeepsChains (s : Shape) (h : Heap) : Type 0 where
 -- a rank is at most the number of versions that were ever published: of each region at most its
 -- places, and as many again for each time that it was freed, which is at most once for each cycle
 -- that is done
-pub record KeepsRanks (s : Shape) (h : Heap) (done : ℕ) : Type 0 where
+pub record KeepsRanks (s : Shape) (h : Heap) : Type 0 where
   pub ranks : (k : Known) → IsPublished h.index k → k.rank ≤ total h.places.made (row_count s)
   pub rows : (row : ℕ) → h.places.used row ≤ s.versions
   pub made : (row : ℕ) → h.places.made row ≤ s.versions * h.places.freed row + h.places.used row
-  pub freed : (row : ℕ) → h.places.freed row ≤ done
+  pub freed : (row : ℕ) → h.places.freed row ≤ h.places.done
 
 -- the history is legal, each seat has seen a beginning of it, and has there all calls of the
 -- callers that it carries
@@ -55,12 +56,15 @@ pub record KeepsHistory {U : Type 0} (g : Site U) (c : Core U) : Type 0 where
       → (calls_of p.number c.heap.history ≡ p.calls.mine)
       × (calls_of p.number v.seen ≡ p.calls.mine)
 
--- the four together, while no cycle is done
+-- all of these together: the safety rule, and the rule of the cycle
 pub record IsSafe {U : Type 0} (g : Site U) (c : Core U) : Type 0 where
+  pub reach : KeepsReach g.shape c
+  pub names : KeepsNames g.shape c.heap
   pub contents : KeepsContents g.shape c.heap
   pub chains : KeepsChains g.shape c.heap
-  pub ranks : KeepsRanks g.shape c.heap 0
+  pub ranks : KeepsRanks g.shape c.heap
   pub history : KeepsHistory g c
+  pub cycle : KeepsCycle g.shape c
 
 module _ {U : Type 0} (lawful : U → PlainStore → Type 0)
     (allowed : U → PlainStore → Entry → Type 0) where
@@ -69,7 +73,7 @@ module _ {U : Type 0} (lawful : U → PlainStore → Type 0)
   pub data Leads (c : Core U) : Core U → Type 0 where
     here : Leads c c
     moved : (d : Core U) (id place : ℕ) (v : View U) (p : Part U) (m : Move) → Leads c d
-        → Carries d.views id place v p → IsLawfulMove lawful allowed d.heap.history p m
+        → Carries d.views id place v p → IsLawfulMove lawful allowed d.heap p m
         → Leads c (applied d id place v p m)
     let_go : (d : Core U) (id place : ℕ) (v : View U) (p : Part U) (o : Option Known) → Leads c d
         → Carries d.views id place v p → Leads c (released d id place v p o)

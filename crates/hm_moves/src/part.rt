@@ -1,6 +1,6 @@
 //! What is known of a version, of a caller, and of a seat. Contracts and proofs alone have values of these types.
 use hm_model::{Contents, Entry, Name, Start};
-use hm_shape::{Shape, Version};
+use hm_shape::{Phase, Reply, Roles, Shape, Version};
 use std::collections::LinkedList;
 
 /// What all seats of one heap agree on.
@@ -39,7 +39,8 @@ pub struct Hands {
     pub held: LinkedList<Known>,
     /// Those that it published in its To and Old regions, in order of publishing.
     pub own: LinkedList<Known>,
-    /// Those that it published before, in regions that it has left behind, in order of publishing.
+    /// Those that it published before, in regions that are From, in order of publishing. Of a dead region they are
+    /// listed until it is freed.
     pub left: LinkedList<Known>,
 }
 
@@ -49,8 +50,67 @@ pub struct Calls {
     pub mine: LinkedList<Entry>,
 }
 
-/// What a caller knows of the collector's cycle: nothing until there is a collector.
-pub struct Cycle {}
+/// A stage of collecting, as a caller saw it.
+#[derive(Clone, Copy, Debug, PartialEq, Eq)]
+pub struct Seen {
+    /// How many stages came before it.
+    pub number: u32,
+    /// How many cycles of collecting are done.
+    pub done: u32,
+    pub phase: Phase,
+}
+
+/// What a caller knows of the stage and of replies to it.
+pub struct Clock {
+    /// The stage that it saw last.
+    pub stage: Seen,
+    /// Its last reply, if it has replied to a stage.
+    pub reply: Option<Reply>,
+    /// Of each caller the reply that it loaded since it saw that stage, if any.
+    pub replies: LinkedList<Option<Reply>>,
+    /// How often it has moved the stage.
+    pub moves: u64,
+}
+
+/// The regions of a caller, and its last join.
+pub struct Ties {
+    /// What each of its regions is used for.
+    pub roles: Roles,
+    /// Whether it has joined, and freed nothing since.
+    pub joined: bool,
+    /// The number of the Join in which it joined last, if it ever joined.
+    pub join: Option<u32>,
+    /// How many cycles were done then, 0 where it never joined.
+    pub done: u32,
+}
+
+/// The end of an object's chain, as a caller found it: its version of this rank had no link.
+#[derive(Clone, Copy, Debug, PartialEq, Eq)]
+pub struct End {
+    pub name: Name,
+    pub rank: u64,
+}
+
+/// What a caller knows of from-space, and how far its scan has come.
+pub struct Scan {
+    /// Of each caller the roles that it has loaded as a mask, if any.
+    pub masks: LinkedList<Option<Roles>>,
+    /// Whether it has met from-space outside of its scan.
+    pub mark: bool,
+    /// How many links and references of its own To and Old versions its scan has passed.
+    pub cursor: u64,
+    /// The ends of chains that it has found since it last loaded roles.
+    pub ends: LinkedList<End>,
+    /// Whether it holds nothing of from-space, nor do its own versions name any.
+    pub bare: bool,
+}
+
+/// What a caller knows of the collector's cycle.
+pub struct Cycle {
+    pub clock: Clock,
+    pub ties: Ties,
+    pub scan: Scan,
+}
 
 /// What is kept of one caller.
 pub struct Part<U> {

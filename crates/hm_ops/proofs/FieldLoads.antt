@@ -10,9 +10,14 @@ use Rattle.hm_moves.specs.declared.moving.Act.{Act}
 use Rattle.hm_moves.specs.declared.moving.Look.{Look}
 use Rattle.hm_moves.specs.declared.moving.Act.TheVariants.{Looks}
 use Rattle.hm_moves.specs.declared.moving.Look.TheVariants.{LoadNumber}
+use Rattle.hm_moves.specs.declared.part.Known.{Known}
+use Rattle.hm_moves.specs.Allowed.{done_limit}
+use Rattle.hm_moves.specs.Places.{IsFit}
 use Rattle.hm_moves.specs.Acts.{entry_of, publishes, field_look}
 use Rattle.hm_cells.specs.Facts.{Facts, Made, IsLookable, IsSound, IsHeldAt, known_at, place_name, sight_of, with_hand, with_root, without_first}
 use Rattle.hm_cells.specs.Calls.{Takes}
+use Rattle.hm_cells.specs.Shows.{IsOfCells}
+use Rattle.hm_cells.proofs.Fields.{rank_most, rank_word}
 use Rattle.hm_cells.proofs.Stepped.{kept_held, kept_stays, held_lookable, known_fit, number_look}
 use Rattle.hm_ops.specs.Resting.{IsRooted, IsRootedBeside, Keeps, Works}
 use Rattle.hm_ops.specs.Walking.{Reads, ReadsInto, contents_at, TakesReference}
@@ -37,15 +42,23 @@ module _ {U : Type 0} (lawful : U → PlainStore → Type 0) (allowed : U → Pl
       → IsSized (contents_at s v).refs (contents_at s v).numbers
   rooted_sized s v k rooted = (known_fit lawful allowed s v k.sound (rooted_look s v k.sound rooted)).sized.contents
 
+  -- its stamp is at most its rank, and so small
+  pub stamp_small : (s : Facts U) (k : Known) → IsSound lawful allowed s
+      → IsFit s.part.site.shape (done_limit s.part) k → k.contents.stamp < 18446744073709551615
+  stamp_small s k sound fit =
+      let rank = rank_word s.part.site.shape k
+      (rank_most s.part.site.shape s.part.cycle.clock.stage.done k sound.sure.cycles fit) in
+      let stamp = fit.sized.stamp in omega (arith, rank, stamp)
+
   module _ (s t : Facts U) (v : Version) (x : ℕ) (k : Keeps lawful allowed s m)
       (after : IsSound lawful allowed t) where
     -- a load that finds no version
-    pub reads_plain : (act : Act) → Takes lawful allowed s act x t → IsRooted s v → entry_of s.part.number
+    pub reads_plain : (act : Act) → IsOfCells act → Takes lawful allowed s act x t → IsRooted s v → entry_of s.part.number
         act x ≡ None
         → publishes act x ≡ None
         → ((took : Takes lawful allowed s act x t) → took.found ≡ None) → Reads lawful allowed m s v t
-    reads_plain act took rooted no_entry nothing none = record {
-      same = same_sight lawful allowed s t act x took no_entry nothing;
+    reads_plain act work took rooted no_entry nothing none = record {
+      same = same_sight lawful allowed s t act x took work no_entry nothing;
       roots = roots_kept lawful allowed s t act x took;
       known = (kept_stays lawful allowed s t act x k.sound after took v (inl rooted)).1;
       keeps = keeps_none lawful allowed s t act x took m k after (none took) nothing;
@@ -58,7 +71,7 @@ module _ {U : Type 0} (lawful : U → PlainStore → Type 0) (allowed : U → Pl
 
         -- a load of a number shows nothing to others
         pub number_read : IsRooted s v → Reads lawful allowed m s v t
-        number_read rooted = reads_plain (Looks (LoadNumber (known_at s v) i)) took_number rooted refl refl
+        number_read rooted = reads_plain (Looks (LoadNumber (known_at s v) i)) tt took_number rooted refl refl
             (λ z. z.what.1)
 
         -- it finds that number

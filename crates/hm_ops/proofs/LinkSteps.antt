@@ -1,5 +1,5 @@
 -- Loads and exchanges of links, and where the place of the version that they find or hang leads.
-use Rattle.std.proofs.Common.{◌≡◌, ◌<◌, ◌+◌, ℕ, add-one, List, length, get_or, Option, Some, None, refl, sym, ap, ◌∙◌, subst, arith, inl, get_or-set_same}
+use Rattle.std.proofs.Common.{◌≡◌, ◌<◌, ◌+◌, ◌-◌, ℕ, add-one, List, length, get_or, Option, Some, None, refl, sym, ap, ◌∙◌, subst, arith, inl, get_or-set_same}
 use Rattle.hm_shape.specs.declared.version.Version.{Version}
 use Rattle.hm_moves.specs.Places.{rank_limit}
 use Rattle.hm_model.specs.declared.object.Name.{Name}
@@ -16,12 +16,14 @@ use Rattle.hm_moves.specs.declared.moving.Build.TheVariants.{LinkStore}
 use Rattle.hm_moves.specs.Acts.{where_zero, entry_of, next_version, publishes}
 use Rattle.hm_moves.specs.Allowed.{HasRoom}
 use Rattle.hm_moves.specs.Told.{IsLink}
-use Rattle.hm_cells.specs.Facts.{Facts, Made, IsSound, IsHeldAt, IsLookable, known_at, names_at, sight_of}
+use Rattle.hm_cells.specs.Facts.{most_cycles, Facts, Made, IsSound, IsHeldAt, IsLookable, known_at, names_at, sight_of}
 use Rattle.hm_cells.specs.declared.want.Want.{Want}
+use Rattle.hm_cells.specs.Shows.{IsOfCells}
 use Rattle.hm_cells.specs.Calls as call
 use Rattle.hm_cells.specs.Calls.{Takes, Tells, stored}
 use Rattle.hm_cells.proofs.Found.{same_version}
 use Rattle.hm_cells.proofs.Stepped.{kept_held, kept_stays, held_lookable, known_fit}
+use Rattle.hm_cells.proofs.Fields.{rank_most}
 use Rattle.hm_ops.specs.Resting.{IsAtPlace, Keeps}
 use Rattle.hm_ops.specs.Placing.{settled}
 use Rattle.hm_ops.specs.Walking.{GoesOn, HasCome, IsLast}
@@ -52,6 +54,10 @@ link_some at next (Some k) h = record {
   same = h.1;
   later = h.2;
 }
+
+-- less is left of a limit above a greater rank
+less_left : (limit was rank : ℕ) → rank < limit → was < rank → limit - rank < limit - was
+less_left limit was rank low more = omega arith
 
 where_none : {A : Type 0} (o : Option A) → where_zero o 0 ≡ o
 where_none None = refl
@@ -90,9 +96,9 @@ module _ {U : Type 0} (lawful : U → PlainStore → Type 0) (allowed : U → Pl
           tells = subst (λ (o : Option Entry). Tells lawful allowed o (sight_of s) (sight_of t)) (where_none want)
               took.tells;
           untended = untended_kept lawful allowed s t act 0 took;
-          same = λ none. same_sight lawful allowed s t act 0 took (where_none want ∙ none) refl;
+          same = λ none. same_sight lawful allowed s t act 0 took tt (where_none want ∙ none) refl;
           names = took.names;
-          room = room_kept lawful allowed s t act 0 took refl;
+          room = room_kept lawful allowed s t act 0 took tt refl;
           roots = roots_kept lawful allowed s t act 0 took;
           known = (kept_stays lawful allowed s t act 0 k.sound after took v (inl (r.0, at))).1;
           keeps = keeps_none lawful allowed s t act 0 took m k after
@@ -105,7 +111,7 @@ module _ {U : Type 0} (lawful : U → PlainStore → Type 0) (allowed : U → Pl
         ap (λ (l : List (Option Name)). name_at l r.0) names ∙ root_named s r.0 v at (placed_held s r.0 v k at)
 
     -- a step that found another version behind this one goes on to it
-    module _ (act : Act) (next : Version) (took : Takes lawful allowed s act (next.0 + 1) t)
+    module _ (act : Act) (work : IsOfCells act) (next : Version) (took : Takes lawful allowed s act (next.0 + 1) t)
         (what : IsLink (known_at s v) (next.0 + 1) took.found)
         (no_entry : entry_of s.part.number act (next.0 + 1) ≡ None)
         (nothing : publishes act (next.0 + 1) ≡ None) where
@@ -123,8 +129,9 @@ module _ {U : Type 0} (lawful : U → PlainStore → Type 0) (allowed : U → Pl
           (ap (λ (l : List (Option Version)). get_or l r.0 None) roots ∙ at) in
           let hand = taken_hand lawful allowed m t r next linked.known has in
           let fit = known_fit lawful allowed t next after (held_lookable lawful allowed t next hand.0) in
-          let low_rank : (known_at t next).rank < rank_limit m.site.shape 0 =
-          subst (λ (x : Site U). (known_at t next).rank < rank_limit x.shape 0) has.works.fits.site fit.rank in
+          let low_rank : (known_at t next).rank < rank_limit m.site.shape most_cycles =
+          subst (λ (x : Site U). (known_at t next).rank < rank_limit x.shape most_cycles) has.works.fits.site
+          (rank_most t.part.site.shape t.part.cycle.clock.stage.done (known_at t next) after.sure.cycles fit) in
           let rank : (known_at t next).rank ≡ linked.known.rank = ap (λ (n : Known). n.rank) has.known in
           let later = linked.later in
           record {
@@ -133,11 +140,12 @@ module _ {U : Type 0} (lawful : U → PlainStore → Type 0) (allowed : U → Pl
               come = record {
                 same = settled_same lawful allowed m t r next linked.known has
                     (was_named took.names ∙ ap (λ (n : Name). Some n) (sym linked.same))
-                    ∙ same_sight lawful allowed s t act (next.0 + 1) took no_entry nothing;
+                    ∙ same_sight lawful allowed s t act (next.0 + 1) took work no_entry nothing;
                 place = get_or-set_same t.roots r.0 (Some next) None low;
                 keeps = settled_keeps lawful allowed m t r next linked.known has;
               };
-              nearer = omega arith;
+              nearer = less_left (rank_limit m.site.shape most_cycles) (known_at s v).rank (known_at t next).rank
+                  low_rank (omega (arith, rank, later));
             };
           }
 
@@ -146,14 +154,14 @@ module _ {U : Type 0} (lawful : U → PlainStore → Type 0) (allowed : U → Pl
         → Takes lawful allowed s (Looks (LoadLink (known_at s v) want)) (next.0 + 1) t
         → OnceSettled t r next (GoesOn lawful allowed m s r v next)
     look_follows want next took =
-        follows (Looks (LoadLink (known_at s v) want)) next took took.what (where_more want next.0) refl
+        follows (Looks (LoadLink (known_at s v) want)) tt next took took.what (where_more want next.0) refl
 
     -- and an exchange that found one
     pub exchange_follows : (fresh : Known) (entry : Option Entry) (next : Version)
         → Takes lawful allowed s (Builds (LinkStore (known_at s v) fresh entry)) (next.0 + 1) t
         → OnceSettled t r next (GoesOn lawful allowed m s r v next)
     exchange_follows fresh entry next took =
-        follows (Builds (LinkStore (known_at s v) fresh entry)) next took took.what (where_more entry next.0)
+        follows (Builds (LinkStore (known_at s v) fresh entry)) tt next took took.what (where_more entry next.0)
         (where_more (Some fresh) next.0)
 
     -- an exchange that found 0 ends a call, with the version that it hung

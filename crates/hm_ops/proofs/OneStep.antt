@@ -5,12 +5,15 @@ use Rattle.hm_model.specs.declared.entry.Entry.{Entry}
 use Rattle.hm_model.specs.Store.{PlainStore}
 use Rattle.hm_model.specs.Sight.{IsUntended}
 use Rattle.hm_moves.specs.declared.part.Known.{Known}
+use Rattle.hm_moves.specs.declared.part.Part.{Part}
 use Rattle.hm_moves.specs.declared.moving.Act.{Act}
 use Rattle.hm_moves.specs.After.{count_of, seen_after}
 use Rattle.hm_moves.specs.Acts.{entry_of, listed, publishes}
 use Rattle.hm_cells.specs.Facts.{Facts, Made, Fits, IsSound, heap_of, room_of, sight_of}
 use Rattle.hm_cells.specs.Calls.{Takes}
+use Rattle.hm_cells.specs.Shows.{IsOfCells}
 use Rattle.hm_cells.proofs.Stepped.{held_few}
+use Rattle.hm_cells.proofs.Working.{still_readied}
 use Rattle.hm_ops.specs.Resting.{Keeps, Works}
 
 module _ {U : Type 0} (lawful : U → PlainStore → Type 0) (allowed : U → PlainStore → Entry → Type 0) where
@@ -90,16 +93,17 @@ module _ {U : Type 0} (lawful : U → PlainStore → Type 0) (allowed : U → Pl
         (hand_kept none nothing ∙ k.resting.rest.hand)
 
     -- one that publishes nothing leaves the room
-    used_kept : publishes act x ≡ None → t.part.draft.used ≡ s.part.draft.used
-    used_kept nothing =
+    used_kept : IsOfCells act → publishes act x ≡ None → t.part.draft.used ≡ s.part.draft.used
+    used_kept work nothing =
         let same : t.part.draft.used ≡ s.part.draft.used + count_of (publishes act x) =
-        ap (λ (f : Facts U). f.part.draft.used) took.is in
+        ap (λ (f : Facts U). f.part.draft.used) took.is
+        ∙ ap (λ (q : Part U). q.draft.used + count_of (publishes act x)) (still_readied s.part act work x) in
         let zero : count_of (publishes act x) ≡ 0 = ap count_of nothing in
         omega arith
 
     -- so its room stays
-    pub room_kept : publishes act x ≡ None → room_of t.part ≡ room_of s.part
-    room_kept nothing = λ i. (site_kept i).shape.versions - used_kept nothing i
+    pub room_kept : IsOfCells act → publishes act x ≡ None → room_of t.part ≡ room_of s.part
+    room_kept work nothing = λ i. (site_kept i).shape.versions - used_kept work nothing i
 
     -- no move tends
     pub untended_kept : IsUntended (sight_of s) (sight_of t)
@@ -111,8 +115,9 @@ module _ {U : Type 0} (lawful : U → PlainStore → Type 0) (allowed : U → Pl
     }
 
     -- and one that makes no entry either is not seen
-    pub same_sight : entry_of s.part.number act x ≡ None → publishes act x ≡ None → sight_of t ≡ sight_of s
-    same_sight no_entry nothing =
+    pub same_sight : IsOfCells act → entry_of s.part.number act x ≡ None → publishes act x ≡ None
+        → sight_of t ≡ sight_of s
+    same_sight work no_entry nothing =
         let seen : t.seen ≡ s.seen = ap (λ (f : Facts U). f.seen) took.is
         ∙ ap (seen_after s.seen (s.seen ++ took.between)) no_entry in
         let mine : t.part.calls.mine ≡ s.part.calls.mine = ap (λ (f : Facts U). f.part.calls.mine) took.is
@@ -125,8 +130,8 @@ module _ {U : Type 0} (lawful : U → PlainStore → Type 0) (allowed : U → Pl
           seen = seen i;
           mine = mine i;
           roots = took.names i;
-          room = room_kept nothing i;
-          used = used_kept nothing i;
+          room = room_kept work nothing i;
+          used = used_kept work nothing i;
           span = (site_kept i).shape.versions;
           moves = (took.is i).moves;
           tends = (took.is i).tends;

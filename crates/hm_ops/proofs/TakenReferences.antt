@@ -29,7 +29,7 @@ use Rattle.hm_ops.specs.Copying.{TakesReferences, given}
 use Rattle.hm_ops.proofs.OneStep.{roots_kept, same_sight, works_one}
 use Rattle.hm_ops.proofs.FieldLoads.{rooted_sized, same_list}
 use Rattle.hm_ops.proofs.Settled.{held_name}
-use Rattle.hm_moves.specs.Allowed.{done_seen}
+use Rattle.hm_moves.specs.Allowed.{done_limit}
 
 -- one version more
 given_more : (vs : List (Option Version)) (v : Option Version)
@@ -75,12 +75,12 @@ module _ {U : Type 0} (lawful : U → PlainStore → Type 0) (allowed : U → Pl
     took = subst (λ (l : Look). call.Takes lawful allowed s (Looks l) x t) (reference_look (known_at s v) i low) loaded
 
     fit : (found : Option Known) → IfSome found (Contains t.part.hands.held)
-        → IfSome found (IsFit t.part.site.shape (done_seen t.part))
+        → IfSome found (IsFit t.part.site.shape (done_limit t.part))
     fit None h = tt
     fit (Some n) h = after.sure.fit n (inl h)
 
     small : x ≤ 2 ^ 32
-    small = small_reference t.part.site.shape (done_seen t.part) x took.found (reference_at (contents_at s v) i)
+    small = small_reference t.part.site.shape (done_limit t.part) x took.found (reference_at (contents_at s v) i)
         took.what (fit took.found took.holds)
 
     module _ (named : Option Version) (names : x ≤ 2 ^ 32 → naming_word named ≡ x) where
@@ -88,7 +88,7 @@ module _ {U : Type 0} (lawful : U → PlainStore → Type 0) (allowed : U → Pl
       hand =
           ap (λ (f : Facts U). f.hand) loaded.is
           ∙ ap (λ (l : List Version). s.hand ++ l)
-          (hand_field t.part.site.shape (done_seen t.part) (known_at s v) (2 + i) x loaded.found named (omega arith)
+          (hand_field t.part.site.shape (done_limit t.part) (known_at s v) (2 + i) x loaded.found named (omega arith)
           (omega arith) loaded.what (fit loaded.found loaded.holds)
           (λ a b c. named_in named x (names c))
           (λ out. absurd (Rattle.std.proofs.Common.⊎_elim (λ (a : 2 + i < 2). omega arith)
@@ -120,7 +120,7 @@ module _ {U : Type 0} (lawful : U → PlainStore → Type 0) (allowed : U → Pl
       pub takes_one : TakesReference s v i named t
       takes_one = record {
         stays = record {
-          same = same_sight lawful allowed s t act x took refl refl;
+          same = same_sight lawful allowed s t act x took tt refl refl;
           roots = roots_kept lawful allowed s t act x took;
           known = kept_stays lawful allowed s t act x k.sound after took;
         };

@@ -130,7 +130,7 @@ module _ {U : Type 0} (lawful : U → PlainStore → Type 0) (allowed : U → Pl
     stays : (j x : ℕ) → first + n ≢ j → Lasts t j x → IsWritten t.part.draft.written j x
         → IsWritten u.part.draft.written j x
     stays j x other lasts was =
-        written_stays lawful allowed t u (Builds (StoreOwn (first + n) w)) w k.sound after took j x refl
+        written_stays lawful allowed t u (Builds (StoreOwn (first + n) w)) w k.sound after took tt j x refl
         (λ i y e same. other (same_store (first + n) i w y e ∙ same)) was lasts
 
     -- one word more is written
@@ -138,7 +138,7 @@ module _ {U : Type 0} (lawful : U → PlainStore → Type 0) (allowed : U → Pl
         → ((i : ℕ) → i < n + 1 → Lasts s (first + i) (slice_index words i)) → Writes s first words
         (n + 1) u
     wrote_more before is low lasts = record {
-      same = same_sight lawful allowed t u (Builds (StoreOwn (first + n) w)) w took refl refl ∙ before.same;
+      same = same_sight lawful allowed t u (Builds (StoreOwn (first + n) w)) w took tt refl refl ∙ before.same;
       roots = roots_kept lawful allowed t u (Builds (StoreOwn (first + n) w)) w took ∙ before.roots;
       hand = hand_kept lawful allowed t u (Builds (StoreOwn (first + n) w)) w took took.what refl ∙ before.hand;
       known = λ v kept. (kept_stays lawful allowed t u (Builds (StoreOwn (first + n) w)) w k.sound after took v

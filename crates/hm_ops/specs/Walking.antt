@@ -3,7 +3,6 @@ use Rattle.std.specs.Prelude.{◌≡◌, ◌≢◌, ℕ, ◌-◌, ◌<◌, ◌++
 use Rattle.std.specs.Option.{option_to_list}
 use Rattle.hm_shape.specs.declared.version.Version.{Version}
 use Rattle.hm_moves.specs.Places.{rank_limit}
-use Rattle.hm_moves.specs.Allowed.{done_seen}
 use Rattle.hm_model.specs.declared.object.Contents.{Contents}
 use Rattle.hm_model.specs.declared.entry.Entry.{Entry}
 use Rattle.hm_model.specs.declared.root.Root.{Root}
@@ -11,7 +10,7 @@ use Rattle.hm_model.specs.Store.{PlainStore}
 use Rattle.hm_model.specs.Sight.{IsUntended, Rests, SetsRoot}
 use Rattle.hm_model.specs.Calls.{Fetches}
 use Rattle.hm_moves.specs.Chain.{reference_at}
-use Rattle.hm_cells.specs.Facts.{Facts, Made, IsHeldAt, known_at, names_at, place_name, room_of, sight_of}
+use Rattle.hm_cells.specs.Facts.{Facts, Made, most_cycles, IsHeldAt, known_at, names_at, place_name, room_of, sight_of}
 use Rattle.hm_cells.specs.Calls.{Tells}
 use Rattle.hm_ops.specs.Resting.{IsAtPlace, IsKept, Keeps}
 
@@ -20,9 +19,10 @@ module _ {U : Type 0} where
   abbrev pub contents_at : Facts U → Version → Contents
   contents_at s v = (known_at s v).contents
 
-  -- ranks rise along links up to their limit, so at most so many versions come behind one
+  -- ranks rise along links, and none reaches the limit that holds once no more cycles can be
+  -- counted, so at most so many versions come behind one
   abbrev pub ahead : Made U → Facts U → Version → ℕ
-  ahead m s v = rank_limit m.site.shape (done_seen s.part) - (known_at s v).rank
+  ahead m s v = rank_limit m.site.shape most_cycles - (known_at s v).rank
 
   -- a step shows nothing to others, and what is kept stays held and known
   pub record Stays (s t : Facts U) : Type 0 where

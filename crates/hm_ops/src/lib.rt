@@ -23,7 +23,8 @@
 //! fields replaced, without a look at the link, and exchanges the link in the same way. At another stamp it loads the
 //! link, and answers `Changed` where that is 0.
 //!
-//! Each call returns, since ranks rise along links and no rank passes the number of the heap's versions.
+//! Each call returns, since ranks rise along links, and no rank reaches a limit that the heap's shape gives
+//! (`specs/Walking.antt`).
 //!
 //! Each call begins and ends with nothing in hand and at most 400 versions held. No call takes memory or a lock,
 //! or waits.

@@ -7,7 +7,7 @@ use Rattle.hm_cells.specs.Closing.{Ended}
 use Rattle.hm_replay.specs.declared.conclusion.FullAt.{FullAt}
 use Rattle.hm_replay.specs.declared.refusal.Refused.{Refused}
 use Rattle.hm_replay.specs.declared.refusal.Refused.TheVariants.{Write}
-use Rattle.hm_replay.specs.Headline.{Headline, Replayed}
+use Rattle.hm_replay.specs.Headline.{Headline, PutsText, Replayed}
 use Rattle.hm_replay.specs.Loading.{most_files}
 use Rattle.hm_replay.specs.Wishes.{IsPlain, names_of}
 use Rattle.hm_words.specs.Asked.{Wish, texts}
@@ -40,6 +40,20 @@ files-later (Some wish) status last same files = λ many. elim (files many) [
   | inl seven ↦ inl (same (λ (e : status ≡ 0). omega (arith, e, seven)) ∙ seven)
   | inr one ↦ inr (same (λ (e : status ≡ 0). omega (arith, e, one)) ∙ one)
 ]
+
+-- the program ends with 0 only where the replay did
+pub done-before : (status last : ℕ) → (status ≢ 0 → last ≡ status) → last ≡ 0 → status ≡ 0
+done-before zero last same done = refl
+done-before (suc n) last same done = sym (same (λ (e : suc n ≡ 0). omega (arith, e))) ∙ done
+
+-- writing out what is kept is no put, so the lines were put as the replay did
+pub lines-later : (asked : Option Wish) (closed : Option (Ended BookUsage)) (status last puts between after : ℕ)
+    → (status ≢ 0 → last ≡ status) → after ≡ between
+    → (status ≡ 0 → IfSome asked (λ wish. IfSome closed (λ e. PutsText wish e puts between)))
+    → last ≡ 0 → IfSome asked (λ wish. IfSome closed (λ e. PutsText wish e puts after))
+lines-later asked closed status last puts between after same none lines done =
+    subst (λ n. IfSome asked (λ wish. IfSome closed (λ e. PutsText wish e puts n))) (sym none)
+    (lines (done-before status last same done))
 
 -- words in the plain form are those that the replay was given
 pub plain-words : (words : Words) (given : Vec (String Global) Global) (slice : List (String Global)) (status : ℕ)

@@ -8,8 +8,8 @@ loop-init c = c.in_ok-push.ensures.items ∙ (λ i. c.new-hands.ensures.items i 
 
 pub loop-preserved : goal.loop-preserved
 loop-preserved c =
-    let h = fresh_hand c.args.shape.versions c.args.common [] in
-    let first = fresh_hand c.args.shape.versions c.args.common c.args.firsts.now in
+    let h = fresh_hand c.args.shape c.args.common [] in
+    let first = fresh_hand c.args.shape c.args.common c.args.firsts.now in
     let more : c.loop.counter - 1 + 1 ≡ c.loop.counter + 1 - 1 = omega arith in
     c.in_ok-push-2.ensures.items ∙ ((λ i. c.loop.invariant i ++ c.in_ok-new-2.ensures i ∷ [])
     ∙ (ap (λ l. first ∷ l) (replicate_more (c.loop.counter - 1) h)

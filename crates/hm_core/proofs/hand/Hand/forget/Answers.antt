@@ -9,6 +9,7 @@ invariant_of-self c =
     record {
       held = h.held;
       own = h.own;
+      left = h.left;
       words = ap length c.unname.ensures
           ∙ (unnamed_wide (Some c.in-Some.known) c.self.inside.written ∙ h.words);
     }

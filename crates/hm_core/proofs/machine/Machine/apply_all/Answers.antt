@@ -6,4 +6,4 @@ pub returns-clause-ends : goal.returns-clause-ends
 returns-clause-ends c =
     let m = c.play-played.new.self in
     let safe = c.store-store.ensures.safe in
-    chains_end m.shape (core_of m).heap safe.chains 0 safe.ranks
+    chains_end m.shape (core_of m).heap safe.chains safe.ranks

@@ -1,4 +1,4 @@
-use Rattle.std.proofs.Common.{◌≡◌, length, sym, ap, ◌∙◌, arith}
+use Rattle.std.proofs.Common.{eqb-true, ◌≡◌, length, sym, ap, ◌∙◌, arith}
 use Rattle.hm_core.proofs.Words.{nat_tests}
 use Rattle.hm_core.proofs.Seating.{seated_alone, alone_seated, none_alone}
 use Rattle.hm_core.proofs.machine.Machine.is_alone.Goals as goal
@@ -8,7 +8,7 @@ returns-then-is_of c =
     let m = c.args.self.now in
     let first = c.is_of.ensures.0 c.if-is_of.true in (
       λ t.
-          let one : length c.parts.result.now ≡ 1 = grind (arith, nat_tests) in
+          let one : length c.parts.result.now ≡ 1 = eqb-true (length c.parts.result.now) 1 t in
           seated_alone m c.in-Some.ensures.sound c.args.caller c.in-Some.seat.now c.in-Some.ensures.seat first
           (ap length (sym c.parts.ensures) ∙ one),
       λ h.

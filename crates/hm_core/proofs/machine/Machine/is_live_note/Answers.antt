@@ -1,7 +1,7 @@
 use Rattle.std.proofs.Common.{◌≡◌, ◌+◌, ℕ, Some, None, sym, ap, ◌∙◌, arith}
 use Rattle.std.specs.Prelude.{slice_get}
 use Rattle.hm_core.proofs.Words.{slice_get_past, nat_tests}
-use Rattle.hm_core.proofs.Seating.{note_iff, none_note}
+use Rattle.hm_core.proofs.Seating.{note_iff, none_note, positive}
 use Rattle.hm_core.proofs.machine.Machine.is_live_note.Goals as goal
 
 pub returns-then-i-notes : goal.returns-then-i-notes
@@ -16,10 +16,9 @@ returns-in-Some c =
     let at : Some c.in-Some.seat.now ≡ slice_get m.seats (m.shape.callers + c.args.i) =
     c.in-Some.ensures.seat ∙ ap (λ (x : ℕ). slice_get m.seats (x + c.args.i))
     (c.from.ensures ∙ c.callers.ensures) in
-    let t = note_iff m c.in-Some.ensures.sound c.args.i c.in-Some.seat.now at in (
-      λ h. t.0 (grind (arith, nat_tests, c.seen.ensures)),
-      λ h. grind (arith, nat_tests, c.seen.ensures, t.1 h),
-    )
+    let t = note_iff m c.in-Some.ensures.sound c.args.i c.in-Some.seat.now at in
+    let u = positive c.seen.result c.in-Some.seat.now.seen c.seen.ensures in
+    (λ h. t.0 (u.0 h), λ h. u.1 (t.1 h))
 
 pub returns-in-None : goal.returns-in-None
 returns-in-None c =

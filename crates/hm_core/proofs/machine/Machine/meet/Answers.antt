@@ -16,7 +16,7 @@ invariant_of-self-2 c =
     let m = c.args.self.now in
     let sound : IsSound m = subst IsSound c.self.view_is c.self.invariant.sound in
     let is = met_is _ m c.self.view_is sound c.args.caller c.requires.awake c.args.let_go c.args.other
-    c.requires.there c.index_mut-3.ensures.value c.release.ensures c.index_mut.ensures.value c.index-2.ensures
+    c.requires.there c.index_mut-3.ensures.value (c.release.ensures c.args.caller) c.index_mut.ensures.value c.index-2.ensures
     c.index.ensures c.seen-seen.ensures (c.as_slice.ensures.value ∙ c.in_ok-parts.ensures)
     c.in_ok-carry.ensures.carried c.spend.ensures in
     record {
@@ -30,7 +30,7 @@ returns-clause-joined c =
     let m = c.args.self.now in
     let sound : IsSound m = subst IsSound c.self.view_is c.self.invariant.sound in
     let is = met_is _ m c.self.view_is sound c.args.caller c.requires.awake c.args.let_go c.args.other
-    c.requires.there c.index_mut-3.ensures.value c.release.ensures c.index_mut.ensures.value c.index-2.ensures
+    c.requires.there c.index_mut-3.ensures.value (c.release.ensures c.args.caller) c.index_mut.ensures.value c.index-2.ensures
     c.index.ensures c.seen-seen.ensures (c.as_slice.ensures.value ∙ c.in_ok-parts.ensures)
     c.in_ok-carry.ensures.carried c.spend.ensures in
     ap core_of is

@@ -8,4 +8,4 @@ pub returns-clause-safe : goal.returns-clause-safe
 returns-clause-safe c =
     let m = moment_of c.self.inside in
     subst (λ (x : Moment). IsSafe (site_of x) (core_of x)) c.self.view_is
-    (safe_good any_store any_entry (site_of m) (core_of m) c.self.invariant.sound.good)
+    (safe_good any_store any_entry (site_of m) (core_of m) (c.self.invariant.sound.good tt))
