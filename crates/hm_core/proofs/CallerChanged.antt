@@ -1,4 +1,4 @@
--- The seats after the hand of one caller changed, and an entry of it was made: all else is as it was.
+-- The seats after the hand of one caller changed, and an entry of it was made: all else stays.
 use Rattle.std.proofs.Common.{◌≡◌, ◌≢◌, ◌<◌, ◌≤◌, ℕ, zero, suc, List, [], ◌∷◌, ◌++◌, length, map, take, set, Option, Some, refl, sym, ap, ◌∙◌, arith, get_or-set_other, get_or-set_same}
 use Rattle.std.specs.Prelude.{slice_get, slice_index_or, slice_set, ◌/◌, ◌%◌}
 use Rattle.hm_shape.specs.declared.roles.Roles.{Roles}
@@ -23,14 +23,16 @@ map_set_agree f g (x ∷ xs) zero y b e h =
     let rest = map_agree f g xs (λ j a is. h (suc j) a is (λ z. omega arith)) in cc
 map_set_agree f g (x ∷ xs) (suc q) y b e h =
     let first = h 0 x refl (λ z. omega arith) in
-    let rest = map_set_agree f g xs q y b e (λ j a is ne. h (suc j) a is (λ z. ne (omega arith))) in cc
+    let rest = map_set_agree f g xs q y b e
+    (λ j a is ne. h (suc j) a is (λ z. ne (omega arith))) in cc
 
 abbrev roles_of : List HandState → ℕ → Roles
 roles_of hands r = (slice_index_or hands r no_hand).cycle.ties.roles
 
 -- each caller's regions have the roles that they had
 each_same : (hands : List HandState) (q : ℕ) (h : HandState) → q < length hands
-    → h.cycle.ties.roles ≡ roles_of hands q → (r : ℕ) → roles_of (set hands q h) r ≡ roles_of hands r
+    → h.cycle.ties.roles ≡ roles_of hands q → (r : ℕ)
+    → roles_of (set hands q h) r ≡ roles_of hands r
 each_same hands q h low same r = dite (ℕ_discrete r q)
     (λ e. let there = get_or-set_same hands q h no_hand low in cc)
     (λ ne. let there = get_or-set_other hands q r h no_hand ne in cc)
@@ -39,7 +41,8 @@ each_same hands q h low same r = dite (ℕ_discrete r q)
 pub roles_same : (s : Shape) (hands : List HandState) (q : ℕ) (h : HandState) → q < length hands
     → h.cycle.ties.roles ≡ roles_of hands q → role_in s (set hands q h) ≡ role_in s hands
 roles_same s hands q h low same = fun_ext (λ row.
-    ap (λ (z : Roles). role_at z (row % s.regions)) (each_same hands q h low same (row / s.regions)))
+    ap (λ (z : Roles). role_at z (row % s.regions))
+    (each_same hands q h low same (row / s.regions)))
 
 module _ (m : Moment) (sound : IsSound m) (q : ℕ)
     (awake : IsAwake (core_of m) q (own_view m q) (own_part m q)) where
@@ -48,7 +51,8 @@ module _ (m : Moment) (sound : IsSound m) (q : ℕ)
 
   pub seen_low : (j : ℕ) (s : SeatState) → slice_get m.seats j ≡ Some s → s.seen ≤ length m.history
   seen_low j s there =
-      let is = get_or_from_slice_get m.seats j s no_seat there in let low = sound.seen j in grind arith
+      let is = get_or_from_slice_get m.seats j s no_seat there in
+      let low = sound.seen j in grind arith
 
   seated : Awakes m q (own_view m q) (own_part m q)
   seated = seated_awake m q (own_view m q) (own_part m q) awake
@@ -63,15 +67,16 @@ module _ (m : Moment) (sound : IsSound m) (q : ℕ)
   own_first = ap (λ (z : SeatState). slice_get z.parts 0) own_is ∙ seated.seated.first
 
   -- a caller that another place carries is another caller
-  carried : (j k r : ℕ) (s : SeatState) → slice_get m.seats j ≡ Some s → slice_get s.parts k ≡ Some r
+  carried : (j k r : ℕ) (s : SeatState) → slice_get m.seats j ≡ Some s
+      → slice_get s.parts k ≡ Some r
       → r ≡ q → (j ≡ q) × (k ≡ 0)
   carried j k r s there here same =
       let c : Carries (core_of m).views j k (seat_view m s) (own_part m r) = record {
         seat = map_at (seat_view m) m.seats j s there;
         place = map_at (own_part m) s.parts k r here;
       } in
-      (sound.good tt).apart j k q 0 (seat_view m s) (own_view m q) (own_part m r) (own_part m q) c awake.carries
-      same
+      (sound.good tt).apart j k q 0 (seat_view m s) (own_view m q) (own_part m r) (own_part m q)
+      c awake.carries same
 
   module _ (n : Moment) (o : Option Entry) (by : IsBy q o) (site : site_of n ≡ site_of m)
       (history : n.history ≡ m.history ++ listed o)

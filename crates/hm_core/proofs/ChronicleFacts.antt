@@ -18,14 +18,16 @@ get_new : {A : Type 0} (xs : List A) (x : A) → slice_get (xs ++ x ∷ []) (len
 get_new [] x = refl
 get_new (y ∷ xs) x = get_new xs x
 
-pub get_split : {A : Type 0} (xs : List A) (y : A) (i : ℕ) (x : A) → slice_get (xs ++ y ∷ []) i ≡ Some x
+pub get_split : {A : Type 0} (xs : List A) (y : A) (i : ℕ) (x : A)
+    → slice_get (xs ++ y ∷ []) i ≡ Some x
     → (slice_get xs i ≡ Some x) ⊎ ((i ≡ length xs) × (y ≡ x))
 get_split [] y zero x h = inr (refl, cc)
 get_split [] y (suc i) x h = absurd (cc)
 get_split (z ∷ xs) y zero x h = inl h
 get_split (z ∷ xs) y (suc i) x h = grind (arith, get_split xs y i x h)
 
-set_split : {A : Type 0} (xs : List A) (i : ℕ) (y : A) (j : ℕ) (x : A) → slice_get (set xs i y) j ≡ Some x
+set_split : {A : Type 0} (xs : List A) (i : ℕ) (y : A) (j : ℕ) (x : A)
+    → slice_get (set xs i y) j ≡ Some x
     → ((j ≡ i) × (y ≡ x)) ⊎ ((j ≢ i) × (slice_get xs j ≡ Some x))
 set_split [] i y j x h = absurd (cc)
 set_split (z ∷ xs) zero y zero x h = inl (refl, cc)
@@ -50,9 +52,10 @@ apart_changed : (f : Contents → Contents) (n : Name) (s : PlainStore) → AreA
 apart_changed f n [] h = tt
 apart_changed f n (p ∷ s) h = ⊎_elim
     (λ (is : is_same p.0 n ≡ true). rw is h)
-    (λ (no' : is_same p.0 n ≡ false). rw no'
-    (contents_of-changed_other f n p.0 s (λ e. other_names p.0 n no' (sym e)) ∙ h.0, apart_changed f n s h.1))
-    (cases_Bool (is_same p.0 n))
+    (λ (no' : is_same p.0 n ≡ false). rw no' (
+      contents_of-changed_other f n p.0 s (λ e. other_names p.0 n no' (sym e)) ∙ h.0,
+      apart_changed f n s h.1,
+    )) (cases_Bool (is_same p.0 n))
 
 -- an entry that stands leaves names apart
 apart_after : (s : PlainStore) (e : Entry) → AreApart s → Stands s e → AreApart (effect_of s e)
@@ -62,12 +65,14 @@ apart_after s (Store q n field) h stands = apart_changed _ n s h
 apart_after s (StoreIf q n stamp refs numbers Stored) h stands = apart_changed _ n s h
 apart_after s (StoreIf q n stamp refs numbers (Changed now)) h stands = h
 
-apart_stays : (s : PlainStore) (es : List Entry) → AreApart s → AllStand s es → AreApart (store_after s es)
+apart_stays : (s : PlainStore) (es : List Entry) → AreApart s → AllStand s es
+    → AreApart (store_after s es)
 apart_stays s [] h stand = h
 apart_stays s (e ∷ es) h stand = apart_stays (effect_of s e) es (apart_after s e h stand.0) stand.1
 
 -- an object is found under its name, wherever it stands
-found_at : (s : PlainStore) (i : ℕ) (n : Name) (x : Contents) → AreApart s → slice_get s i ≡ Some (n, x)
+found_at : (s : PlainStore) (i : ℕ) (n : Name) (x : Contents) → AreApart s
+    → slice_get s i ≡ Some (n, x)
     → contents_of s n ≡ Some x
 found_at [] i n x h e = absurd (cc)
 found_at (p ∷ s) zero n x h e = grind (arith, is_same-self p.0)
@@ -82,14 +87,16 @@ changed_at now (p ∷ s) (suc i) n x h e =
     grind (arith, found_at s i n x h.1 e, same_names p.0 n, h.0, changed_at now s i n x h.1 e)
 
 -- the change is told from what the object held
-changed_to : (f : Contents → Contents) (n : Name) (s : PlainStore) (x : Contents) → contents_of s n ≡ Some x
+changed_to : (f : Contents → Contents) (n : Name) (s : PlainStore) (x : Contents)
+    → contents_of s n ≡ Some x
     → with_changed f n s ≡ with_changed (λ _. f x) n s
 changed_to f n [] x h = refl
 changed_to f n (p ∷ s) x h = grind (arith, changed_to f n s x)
 
 -- a change leaves each name at its place
 name_stays : (f : Contents → Contents) (m : Name) (s : PlainStore) (i : ℕ) (n : Name) (x : Contents)
-    → slice_get s i ≡ Some (n, x) → (y : Contents) × (slice_get (with_changed f m s) i ≡ Some (n, y))
+    → slice_get s i ≡ Some (n, x)
+    → (y : Contents) × (slice_get (with_changed f m s) i ≡ Some (n, y))
 name_stays f m [] i n x e = absurd (cc)
 name_stays f m (p ∷ s) zero n x e = ⊎_elim
     (λ (is : is_same p.0 m ≡ true). rw is (f p.1, grind arith))
@@ -117,13 +124,15 @@ placed_own s n x ps h next =
     record {
       count = let long = length_push ps (length s) in omega arith;
       at = λ c i b. ⊎_elim
-          (λ (old : slice_get ps c ≡ Some i). let o = h.at c i old in (o.0, get_front s ((n, x) ∷ []) i _ o.1))
+          (λ (old : slice_get ps c ≡ Some i). let o =
+          h.at c i old in (o.0, get_front s ((n, x) ∷ []) i _ o.1))
           (λ (new : (c ≡ length ps) × (length s ≡ i)). let is : c ≡ n.count = omega arith in
           rw (is, sym new.1) (x, get_new s (n, x))) (get_split ps (length s) c i b);
     }
 
 -- the names of a chronicle are apart, and its store is well made
-module _ (es : List Entry) (s : PlainStore) (places : List (List ℕ)) (h : IsChronicle es s places) where
+module _ (es : List Entry) (s : PlainStore) (places : List (List ℕ))
+    (h : IsChronicle es s places) where
   apart : AreApart (store_of es)
   apart = apart_stays [] es tt h.stand
 
@@ -159,8 +168,10 @@ module _ (es : List Entry) (s : PlainStore) (places : List (List ℕ)) (h : IsCh
           let a = slice_get-get_or places n.maker [] low in
           let many = (h.found n.maker (get_or places n.maker []) a).count in
           let less = (well_made_stays [] es well_made_nil h.stand).numbered n x there in
-          let count : made_count n.maker s ≡ made_count n.maker (store_of es) = ap (made_count n.maker) h.is in
-          let b = slice_get-get_or (get_or places n.maker []) n.count 0 (omega arith) in absurd (grind arith)
+          let count : made_count n.maker s ≡ made_count n.maker (store_of es) =
+          ap (made_count n.maker) h.is in
+          let b = slice_get-get_or (get_or places n.maker []) n.count 0 (omega arith) in
+          absurd (grind arith)
 
   -- one entry more
   module _ (e : Entry) (stands : Stands (store_of es) e) where
@@ -170,7 +181,8 @@ module _ (es : List Entry) (s : PlainStore) (places : List (List ℕ)) (h : IsCh
     next_store : (t : PlainStore) → effect_of (store_of es) e ≡ t → t ≡ store_of (es ++ e ∷ [])
     next_store t is = sym is ∙ sym (store_after-append [] es (e ∷ []))
 
-    pub chronicle_none : effect_of (store_of es) e ≡ store_of es → IsChronicle (es ++ e ∷ []) s places
+    pub chronicle_none : effect_of (store_of es) e ≡ store_of es
+        → IsChronicle (es ++ e ∷ []) s places
     chronicle_none is = record {
       stand = next_stand;
       is = h.is ∙ next_store (store_of es) is;
@@ -180,7 +192,8 @@ module _ (es : List Entry) (s : PlainStore) (places : List (List ℕ)) (h : IsCh
 
     -- which makes an object hold something else
     pub chronicle_changed : (n : Name) (now : Contents) (i : ℕ)
-        → effect_of (store_of es) e ≡ with_changed (λ _. now) n (store_of es) → StandsAt (store_of es) n i
+        → effect_of (store_of es) e ≡ with_changed (λ _. now) n (store_of es)
+        → StandsAt (store_of es) n i
         → IsChronicle (es ++ e ∷ []) (set s i (n, now)) places
     chronicle_changed n now i is at =
         let write : with_changed (λ _. now) n s ≡ set s i (n, now) =
@@ -197,7 +210,8 @@ module _ (es : List Entry) (s : PlainStore) (places : List (List ℕ)) (h : IsCh
 
     -- which makes an object
     pub chronicle_created : (n : Name) (x : Contents) (ps : List ℕ)
-        → effect_of (store_of es) e ≡ store_of es ++ (n, x) ∷ [] → slice_get places n.maker ≡ Some ps
+        → effect_of (store_of es) e ≡ store_of es ++ (n, x) ∷ []
+        → slice_get places n.maker ≡ Some ps
         → n.count ≡ made_count n.maker (store_of es)
         → IsChronicle (es ++ e ∷ []) (s ++ (n, x) ∷ []) (set places n.maker (ps ++ length s ∷ []))
     chronicle_created n x ps is a count =
@@ -206,7 +220,8 @@ module _ (es : List Entry) (s : PlainStore) (places : List (List ℕ)) (h : IsCh
         record {
           stand = next_stand;
           is = rw h.is (next_store _ is);
-          makers = λ m y there. grind (arith, contents_of-push_split s (n, x) m y there, h.makers m y);
+          makers = λ m y there.
+              grind (arith, contents_of-push_split s (n, x) m y there, h.makers m y);
           found = λ q qs b. ⊎_elim
               (λ (own : (q ≡ n.maker) × (ps ++ length s ∷ [] ≡ qs)).
               rw (own.0, sym own.1) (placed_own s n x ps (h.found n.maker ps a) (rw h.is count)))
@@ -233,7 +248,8 @@ module _ {V : Type 0} (f : V → List ℕ) (places : List V) (i : ℕ) (v w : V)
       ∙ ap Some (sym here)
 
 -- what an entry that stores makes of the store
-pub store_effect : (s : PlainStore) (e : Entry) (q : ℕ) (n : Name) (field : Field) (x now : Contents)
+pub store_effect : (s : PlainStore) (e : Entry) (q : ℕ) (n : Name) (field : Field)
+    (x now : Contents)
     → e ≡ Store q n field → contents_of s n ≡ Some x → now ≡ with_field field x
     → effect_of s e ≡ with_changed (λ _. now) n s
 store_effect s e q n field x now is held to = rw (is, to) (changed_to (with_field field) n s x held)
@@ -241,7 +257,8 @@ store_effect s e q n field x now is held to = rw (is, to) (changed_to (with_fiel
 pub store_if_effect : (s : PlainStore) (e : Entry) (q : ℕ) (n : Name) (stamp : ℕ) (refs : Refs)
     (numbers : Numbers) (answer : Tried) (x now : Contents)
     → e ≡ StoreIf q n stamp refs numbers answer → answer ≡ Stored
-    → contents_of s n ≡ Some x → now ≡ with_all refs numbers x → effect_of s e ≡ with_changed (λ _. now) n s
+    → contents_of s n ≡ Some x → now ≡ with_all refs numbers x
+    → effect_of s e ≡ with_changed (λ _. now) n s
 store_if_effect s e q n stamp refs numbers answer x now is stored held to =
     rw (is, stored, to) (changed_to (with_all refs numbers) n s x held)
 

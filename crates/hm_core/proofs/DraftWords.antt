@@ -11,12 +11,14 @@ pub record AreUnnamedTo (k : Known) (i : ℕ) (old new : List (Option ℕ)) : Ty
 unnamed_at : (k : Known) (i : ℕ) (l : List (Option ℕ)) (j : ℕ)
     → get_or (unnamed_from k i l) j None ≡ unless_named k (i + j) (get_or l j None)
 unnamed_at k i [] j = refl
-unnamed_at k i (x ∷ xs) zero = let at : i ≡ i + 0 = omega arith in ap (λ (n : ℕ). unless_named k n x) at
+unnamed_at k i (x ∷ xs) zero = let at : i ≡ i + 0 =
+    omega arith in ap (λ (n : ℕ). unless_named k n x) at
 unnamed_at k i (x ∷ xs) (suc j) = let at : (i + 1) + j ≡ i + suc j = omega arith in
     unnamed_at k (i + 1) xs j ∙ ap (λ (n : ℕ). unless_named k n (get_or xs j None)) at
 
 pub unnamed_none : (k : Known) (old : List (Option ℕ)) → AreUnnamedTo k 0 old old
-unnamed_none k old = record { long = refl; before = λ j low. absurd (omega arith); behind = λ j low. refl }
+unnamed_none k old =
+    record { long = refl; before = λ j low. absurd (omega arith); behind = λ j low. refl }
 
 pub unnamed_more : (k : Known) (i : ℕ) (old new : List (Option ℕ)) (word : Option ℕ)
     → AreUnnamedTo k i old new → i < length old → word ≡ unless_named k i (get_or new i None)
@@ -27,10 +29,12 @@ unnamed_more k i old new word h low is = record {
       (λ (e : j ≡ i). let long = h.long in rw (e, sym (h.behind i (omega arith)), sym is)
       (get_or-set_same new i word None (omega arith)))
       (λ ne. get_or-set_other new i j word None ne ∙ h.before j (omega arith));
-  behind = λ j more. get_or-set_other new i j word None (λ z. omega arith) ∙ h.behind j (omega arith);
+  behind = λ j more. get_or-set_other new i j word None (λ z. omega arith)
+      ∙ h.behind j (omega arith);
 }
 
-pub unnamed_all : (k : Known) (i : ℕ) (old new : List (Option ℕ)) → AreUnnamedTo k i old new → length old ≤ i
+pub unnamed_all : (k : Known) (i : ℕ) (old new : List (Option ℕ)) → AreUnnamedTo k i old new
+    → length old ≤ i
     → new ≡ unnamed (Some k) old
 unnamed_all k i old new h far =
     let long = h.long in

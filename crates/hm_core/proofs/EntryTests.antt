@@ -10,7 +10,8 @@ use Rattle.hm_core.specs.declared.step.StepKind.TheVariants.{LoadField, LoadLink
 use Rattle.hm_core.proofs.Moments.{only_one, look_index}
 
 module _ {A : Type 0} (E : A → A → Bool) where
-  list_told : ((a b : A) → E a b ≡ true → a ≡ b) → (xs ys : List A) → pointwise E xs ys ≡ true → xs ≡ ys
+  list_told : ((a b : A) → E a b ≡ true → a ≡ b) → (xs ys : List A)
+      → pointwise E xs ys ≡ true → xs ≡ ys
   list_told told [] [] h = refl
   list_told told [] (y ∷ ys) h = absurd (cc)
   list_told told (x ∷ xs) [] h = absurd (cc)
@@ -32,7 +33,8 @@ ref_same (Some a) = is_same-self a
 
 -- the test of two contents tells whether they are the same
 pub contents_iff : (a b : Contents) → ((eqb a.stamp b.stamp &&
-    (pointwise (option_eq is_same) a.refs b.refs && pointwise eqb a.numbers b.numbers)) ≡ true) ↔ (a ≡ b)
+    (pointwise (option_eq is_same) a.refs b.refs && pointwise eqb a.numbers b.numbers)) ≡ true)
+    ↔ (a ≡ b)
 contents_iff a b = (
   λ h. let t = and_parts _ _ h in let u = and_parts _ _ t.1 in λ i. record {
     stamp = eqb-true a.stamp b.stamp t.0 i;
@@ -71,9 +73,11 @@ module _ (m : Moment) (q : ℕ) where
       record { version = next_version p; name = n; rank = 0; contents = new_contents refs numbers }
 
   abbrev later_made : Known → Contents → Known
-  later_made k x = record { version = next_version p; name = k.name; rank = k.rank + 1; contents = x }
+  later_made k x =
+      record { version = next_version p; name = k.name; rank = k.rank + 1; contents = x }
 
-  -- a Create fits where it is the caller's next, of objects that are there, and its version is built so
+  -- a Create fits where it is the caller's next, of objects that are there, and its version is
+  -- built so
   pub create_fits : (by : ℕ) (n : Name) (refs : Refs) (numbers : List ℕ) → by ≡ q → HasRoom p
       → n ≡ next_name p → AreKnown Known' refs
       → IsBuilt p.hands.held p.draft.written (new_contents refs numbers)
@@ -84,7 +88,15 @@ module _ (m : Moment) (q : ℕ) where
       refl,
       record {
         first =
-            record { room = room; version = refl; name = name; rank = refl; stamp = refl; names = given; built = built };
+            record {
+              room = room;
+              version = refl;
+              name = name;
+              rank = refl;
+              stamp = refl;
+              names = given;
+              built = built;
+            };
         may = tt;
       },
     ),
@@ -101,7 +113,8 @@ module _ (m : Moment) (q : ℕ) where
       (own, first.name, first.names, first.built)
 
   -- an entry that turns the contents makes a later version
-  later_is : (k : Known) (e : Entry) (x : Contents) → Turns Known' p k x e → later_contents k e ≡ Some x
+  later_is : (k : Known) (e : Entry) (x : Contents) → Turns Known' p k x e
+      → later_contents k e ≡ Some x
   later_is k (Create by n refs numbers) x h = absurd h
   later_is k (Fetch by n answer) x h = absurd h
   later_is k (Store by n field) x h = ap (λ (c : Contents). Some c) (sym h.2)
@@ -134,10 +147,12 @@ module _ (m : Moment) (q : ℕ) where
           (x, link.turns, link.later.link, link.later.built)
 
   module _ (sound : IsSound m) (awake : IsAwake (core_of m) q (own_view m q) (own_part m q)) where
-    looked : (v : Version) (k : Known) → index_of m.known v.0 ≡ Some k → IsLookable p v → MayLookInto p k
+    looked : (v : Version) (k : Known) → index_of m.known v.0 ≡ Some k → IsLookable p v
+        → MayLookInto p k
     looked v k is (n, look, same) =
         rw (only_one k n (index_of m.known v.0) is
-        (ap (λ (x : Version). index_of m.known x.0) (sym same) ∙ look_index m sound q awake n look)) look
+        (ap (λ (x : Version). index_of m.known x.0) (sym same) ∙ look_index m sound q awake n look))
+        look
 
     -- a load of a link is taken where its entry reads the version
     pub wants_fit : (v : Version) (k : Known) (want : Option Entry) (scan : Bool)
@@ -147,16 +162,24 @@ module _ (m : Moment) (q : ℕ) where
       λ h. (
         Looks (look.LoadLink k want),
         rw is refl,
-        record { look = looked v k is seen; word = tt; reads = h; may = each_some Any want (λ e is. tt) },
+        record {
+          look = looked v k is seen;
+          word = tt;
+          reads = h;
+          may = each_some Any want (λ e is. tt);
+        },
       ),
       λ (a, e, may). let both = rw is at e in let same : Looks (look.LoadLink k want) ≡ a = cc in
           (subst (MayTake Known' Any Clean Later p) (sym same) may).reads,
     )
 
-    field_may : (k : Known) (i : ℕ) (s t : Bool) → nat_lt i first_number ≡ t → MayLookInto p k → 0 < i → i < 16
-        → MayLook Known' Any Clean Later p (if s then LoadStamp k else if t then LoadReference k (i - first_reference)
+    field_may : (k : Known) (i : ℕ) (s t : Bool) → nat_lt i first_number ≡ t → MayLookInto p k
+        → 0 < i → i < 16
+        → MayLook Known' Any Clean Later p
+        (if s then LoadStamp k else if t then LoadReference k (i - first_reference)
         else LoadNumber k (i - first_number))
-    field_may k i true t e look positive below = record { look = look; word = tt; reads = tt; may = tt }
+    field_may k i true t e look positive below =
+        record { look = look; word = tt; reads = tt; may = tt }
     field_may k i false true e look positive below =
         let low = ltb-true i 6 e in record { look = look; word = omega arith; reads = tt; may = tt }
     field_may k i false false e look positive below =
@@ -167,7 +190,8 @@ module _ (m : Moment) (q : ℕ) where
         → Fits (core_of m) p kind
     plain_fits (LoadField v i scan) (k, look, same) (positive, below) plain = (
       Looks (field_look k i),
-      ap (λ (x : Version). option_map (λ at. Looks (field_look at i)) (index_of m.known x.0)) (sym same)
+      ap (λ (x : Version). option_map (λ at. Looks (field_look at i)) (index_of m.known x.0))
+          (sym same)
           ∙ rw (look_index m sound q awake k look) refl,
       field_may k i (i == stamp_at) (nat_lt i first_number) refl look positive below,
     )
@@ -176,7 +200,8 @@ module _ (m : Moment) (q : ℕ) where
     plain_fits kind needs place plain = absurd plain
 
     -- an entry that turns the contents fits where the next version is built so
-    pub link_fits : (v : Version) (k : Known) (e : Entry) (x : Contents) → index_of m.known v.0 ≡ Some k
+    pub link_fits : (v : Version) (k : Known) (e : Entry) (x : Contents)
+        → index_of m.known v.0 ≡ Some k
         → IsLookable p v → HasRoom p → Turns Known' p k x e → IsWritten p.draft.written link_at 0
         → IsBuilt p.hands.held p.draft.written x → Fits (core_of m) p (LinkStore v e)
     link_fits v k e x is look room turns link built = (
@@ -184,7 +209,14 @@ module _ (m : Moment) (q : ℕ) where
       link_act v k e is ∙ ap (linked e k) (later_is k e x turns),
       record {
         look = looked v k is look;
-        later = record { room = room; version = refl; name = refl; rank = refl; link = link; built = built };
+        later = record {
+          room = room;
+          version = refl;
+          name = refl;
+          rank = refl;
+          link = link;
+          built = built;
+        };
         copies = tt;
         turns = turns;
         may = tt;

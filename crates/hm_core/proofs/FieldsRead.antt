@@ -4,7 +4,8 @@ use Rattle.hm_core.proofs.Words.{Row, HandState, no_hand, SeatState, no_seat, Is
 use Rattle.hm_core.proofs.Moments.{awake_below}
 
 -- an element that was read is the one at any default
-pub read_at : {A : Type 0} (xs ys : List A) (i : ℕ) (y d : A) → xs ≡ ys → i < length ys → y ≡ get_or xs i y
+pub read_at : {A : Type 0} (xs ys : List A) (i : ℕ) (y d : A) → xs ≡ ys → i < length ys
+    → y ≡ get_or xs i y
     → y ≡ get_or ys i d
 read_at xs ys i y d same low e = (rw same at e) ∙ get_or_default ys i y d low
 
@@ -17,15 +18,19 @@ module _ (a m : Moment) (same : a ≡ m) (sound : IsSound m) (q : ℕ)
   hand_below = rw same hand_there
 
   pub hand_read : (h : HandState) → h ≡ get_or a.hands q h → h ≡ hand_at m q
-  hand_read h e = read_at a.hands m.hands q h no_hand (ap (λ (z : Moment). z.hands) same) hand_there e
+  hand_read h e =
+      read_at a.hands m.hands q h no_hand (ap (λ (z : Moment). z.hands) same) hand_there e
 
   -- another seat, where it is there
-  pub other_read : (j : ℕ) (s : SeatState) → j < length m.seats → s ≡ get_or a.seats j s → s ≡ seat_at m j
+  pub other_read : (j : ℕ) (s : SeatState) → j < length m.seats → s ≡ get_or a.seats j s
+      → s ≡ seat_at m j
   other_read j s l e = read_at a.seats m.seats j s no_seat (ap (λ (z : Moment). z.seats) same) l e
 
   pub seat_read : (s : SeatState) → s ≡ get_or a.seats q s → s ≡ seat_at m q
   seat_read s e =
-      other_read q s (let size = sound.seats_size in let low = awake_below m sound q awake in omega arith) e
+      other_read q s
+      (let size = sound.seats_size in let low = awake_below m sound q awake in omega arith) e
 
-  pub row_read : (row : ℕ) (r : Row) → row < length m.rows → r ≡ get_or a.rows row r → r ≡ row_at m.rows row
+  pub row_read : (row : ℕ) (r : Row) → row < length m.rows → r ≡ get_or a.rows row r
+      → r ≡ row_at m.rows row
   row_read row r l e = read_at a.rows m.rows row r no_row (ap (λ (z : Moment). z.rows) same) l e

@@ -12,16 +12,24 @@ pub record AreAdded (before : List Known) (sides : List (Option Numbers)) (names
 pub none_added : (before : List Known) → AreAdded before [] [] before
 none_added before = record { versions = sym (append-nil before); names_are = refl }
 
-pub one_added : (before : List Known) (side : Option Numbers) (name : Option Name) (more : List Known)
-    (sides : List (Option Numbers)) (names : Refs) (after : List Known) → AddsSide before side name more
+pub one_added : (before : List Known) (side : Option Numbers) (name : Option Name)
+    (more : List Known)
+    (sides : List (Option Numbers)) (names : Refs) (after : List Known)
+    → AddsSide before side name more
     → AreAdded more sides names after → AreAdded before (side ∷ sides) (name ∷ names) after
 one_added before side name more sides names after one rest =
     let here : List Known = side_known (length before) (side ∷ []) in
-    let count : length more ≡ length before + length here = ap length one.versions ∙ length-append before here in
+    let count : length more ≡ length before + length here = ap length one.versions
+    ∙ length-append before here in
     record {
       versions = rest.versions ∙ rw (count, one.versions, first_known (length before) side sides)
           (append_assoc before here (side_known (length before + length here) sides));
-      names_are = rw (rest.names_are, count, first_name (length before) side sides, sym one.name_is) refl;
+      names_are = rw (
+        rest.names_are,
+        count,
+        first_name (length before) side sides,
+        sym one.name_is,
+      ) refl;
     }
 
 -- the common object's version comes behind all of them
@@ -40,11 +48,13 @@ common_last start l d is =
     let at : length (all_known start) - 1 ≡ length (side_known 0 start.sides) + 0 = omega arith in
     rw (is, at) (get_or-append-add (side_known 0 start.sides) (common_known start ∷ []) 0 d)
 
-creates_are : (k : ℕ) (sides : List (Option Numbers)) → creates_of (side_known k sides) ≡ side_entries k sides
+creates_are : (k : ℕ) (sides : List (Option Numbers))
+    → creates_of (side_known k sides) ≡ side_entries k sides
 creates_are k [] = refl
 creates_are k (None ∷ sides) = creates_are k sides
 creates_are k (Some n ∷ sides) =
-    ap (λ (l : List Entry). Create 0 (starting_name k) (replicate 4 None) n ∷ l) (creates_are (k + 1) sides)
+    ap (λ (l : List Entry). Create 0 (starting_name k) (replicate 4 None) n ∷ l)
+    (creates_are (k + 1) sides)
 
 -- their Creates are the opening
 pub opening_created : (start : Start) → creates_of (all_known start) ≡ opening_of start
@@ -64,12 +74,15 @@ next_stands firsts i d entries e low stand same is =
     let parts : creates_of firsts ≡ creates_of (take i firsts) ++ creates_of behind =
     ap creates_of (sym (take-append-drop i firsts)
     ∙ ap (λ (l : List Known). take i firsts ++ l) (drop_more firsts i d low))
-    ∙ map-append (λ (k : Known). Create 0 k.name k.contents.refs k.contents.numbers) (take i firsts) behind in
-    let both = all_stand_parts [] (creates_of (take i firsts)) (creates_of behind) (subst (AllStand []) parts stand) in
+    ∙ map-append (λ (k : Known). Create 0 k.name k.contents.refs k.contents.numbers)
+    (take i firsts) behind in
+    let both = all_stand_parts [] (creates_of (take i firsts)) (creates_of behind)
+    (subst (AllStand []) parts stand) in
     rw (same, is) both.1.0
 
 -- and is on no object that is there
-pub next_stamp : (s : PlainStore) (e : Entry) (q : ℕ) (n : Name) (refs : Refs) (numbers : Numbers) (end : ℕ)
+pub next_stamp : (s : PlainStore) (e : Entry) (q : ℕ) (n : Name) (refs : Refs)
+    (numbers : Numbers) (end : ℕ)
     → e ≡ Create q n refs numbers → Stands s e → HasNextStamp s e end
 next_stamp s e q n refs numbers end is stands =
     let fresh = (subst (Stands s) is stands).fresh in rw is (rw fresh tt)

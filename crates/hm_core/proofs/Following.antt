@@ -27,7 +27,8 @@ cursor_readied s q h (Shifts (Reuse roles)) x = omega arith
 
 -- there is room then for what the act publishes
 pub room_readied : (s : Shape) (q : ℕ) (h : HandState) (act : Act) (x : ℕ)
-    → IfSome (publishes act x) (CanPublish h) → IfSome (publishes act x) (CanPublish (hand_readied s q h act x))
+    → IfSome (publishes act x) (CanPublish h)
+    → IfSome (publishes act x) (CanPublish (hand_readied s q h act x))
 room_readied s q h (Looks l) x room = tt
 room_readied s q h (Builds b) x room = room
 room_readied s q h (Ticks t) x room = tt
@@ -45,10 +46,11 @@ work_readied s q h m x found can = record {
 }
 
 -- the hand after all steps, once its end is noted
-pub followed : (s : Shape) (q : ℕ) (h : HandState) (act : Act) (scan : Bool) (let_go : Option Known) (x : ℕ)
-    (found : Option Known)
+pub followed : (s : Shape) (q : ℕ) (h : HandState) (act : Act) (scan : Bool)
+    (let_go : Option Known) (x : ℕ) (found : Option Known)
     → let m : Move = record { act = act; scan = scan; let_go = let_go } in
-    hand_bared s (hand_worked (hand_noted s (hand_readied s q (ending h (found_end act x)) act x) m found) m x found)
+    hand_bared s (hand_worked
+    (hand_noted s (hand_readied s q (ending h (found_end act x)) act x) m found) m x found)
     ≡ hand_after s q h m x found
 followed s q h (Looks l) scan let_go x found = refl
 followed s q h (Builds b) scan let_go x found = refl

@@ -1,10 +1,10 @@
--- What a load of a reply or of roles finds is a word of such, and stages that are exchanged have words.
-use Rattle.std.proofs.Common.{◌≡◌, ◌<◌, ◌≤◌, ◌+◌, ◌*◌, ◌/◌, ◌^◌, ℕ, Option, Some, None, refl, sym, ap, ◌∙◌, subst, arith}
+-- A load of a reply or of roles finds a word of such, and stages that are exchanged have words.
+use Rattle.std.proofs.Common.{◌<◌, ◌≤◌, ◌^◌, ℕ, Option, Some, None, sym, subst, arith}
 use Rattle.std.specs.Prelude.{slice_index}
 use Rattle.hm_shape.specs.declared.reply.Reply.{Reply}
 use Rattle.hm_shape.specs.declared.stage.Phase.{Phase}
 use Rattle.hm_shape.specs.declared.stage.Phase.TheVariants.{Idle, Join, First, Second}
-use Rattle.hm_shape.specs.Words.{kind_number, reply_at, reply_word, roles_at, stage_at}
+use Rattle.hm_shape.specs.Words.{reply_at, roles_at, stage_at}
 use Rattle.hm_model.specs.declared.entry.Entry.{Entry}
 use Rattle.hm_model.specs.declared.object.Name.{Name}
 use Rattle.hm_moves.specs.declared.moving.Act.{Act}
@@ -56,7 +56,8 @@ module _ {U : Type 0} (h : Heap) (moves : ℕ → ℕ) (x : State) (p : Part U) 
       let r = shows.roles q low in
       subst (λ (w : ℕ). w < 2 ^ 16) (sym r.word_is) (roles_low r.roles r.wide)
 
-  module _ (known : Name → Type 0) (make : Entry → Type 0) (clean : Type 0) (later : Known → ℕ → Known → Type 0) where
+  module _ (known : Name → Type 0) (make : Entry → Type 0) (clean : Type 0)
+      (later : Known → ℕ → Known → Type 0) where
     -- an act that its caller may take finds such a word
     pub found_word : (a : Act) → MayTake known make clean later p a
         → FindsWord a (slice_index h.words (word_of p a))

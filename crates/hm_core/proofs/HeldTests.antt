@@ -10,7 +10,8 @@ any_told : {A : Type 0} (test : A → Bool) (xs : List A) → list_any test xs �
 any_told test [] e = absurd (cc)
 any_told {A} test (x ∷ xs) e = go (test x) refl (any_told test xs) e
   where
-    go : (t : Bool) → test x ≡ t → (list_any test xs ≡ true → (a : A) × Contains xs a × (test a ≡ true))
+    go : (t : Bool) → test x ≡ t
+        → (list_any test xs ≡ true → (a : A) × Contains xs a × (test a ≡ true))
         → (t || list_any test xs) ≡ true → (a : A) × Contains (x ∷ xs) a × (test a ≡ true)
     go true is rest e = (x, contains_here x x xs refl, is)
     go false is rest e = let t = rest e in (t.0, contains_behind t.0 x xs t.1, t.2)
@@ -23,7 +24,8 @@ any_tested {A} test (x ∷ xs) a c e = ⊎_elim
     (λ (d : Contains xs a). let r = any_tested test xs a d e in rw r (grind arith))
     (contains_first a x xs c)
 
-any_iff : {A : Type 0} (test : A → Bool) (P : A → Type 0) (xs : List A) → ((a : A) → (test a ≡ true) ↔ P a)
+any_iff : {A : Type 0} (test : A → Bool) (P : A → Type 0) (xs : List A)
+    → ((a : A) → (test a ≡ true) ↔ P a)
     → (list_any test xs ≡ true) ↔ ((a : A) × Contains xs a × P a)
 any_iff test P xs h = (
   λ e. let t = any_told test xs e in (t.0, t.1, (h t.0).0 t.2),
@@ -58,11 +60,19 @@ pub spells_iff : (w : ℕ) (n : Name) (ks : List Known)
     → (list_any (λ k. (naming_word (Some k.version) == w) && is_same k.name n) ks ≡ true)
     ↔ Spells ks w (Some n)
 spells_iff w n ks = (
-  λ t. let u = any_told test ks t in let v = both (naming_word (Some u.0.version) == w) (is_same u.0.name n) u.2
-      in (u.0, u.1, sym (eqb-true (naming_word (Some u.0.version)) w v.0), same_names u.0.name n v.1),
+  λ t. let u = any_told test ks t in
+      let v = both (naming_word (Some u.0.version) == w) (is_same u.0.name n) u.2
+      in (
+        u.0,
+        u.1,
+        sym (eqb-true (naming_word (Some u.0.version)) w v.0),
+        same_names u.0.name n v.1,
+      ),
   λ (k, c, e, s). any_tested test ks k c (
-      let a : (naming_word (Some k.version) == w) ≡ true = eq-eqb (naming_word (Some k.version)) w (sym e) in
-      let b : is_same k.name n ≡ true = subst (λ (z : Name). is_same k.name z ≡ true) s (is_same-self k.name) in
+      let a : (naming_word (Some k.version) == w) ≡ true =
+      eq-eqb (naming_word (Some k.version)) w (sym e) in
+      let b : is_same k.name n ≡ true =
+      subst (λ (z : Name). is_same k.name z ≡ true) s (is_same-self k.name) in
       rw (a, b) refl),
 )
   where
@@ -85,10 +95,15 @@ held_once held k e = rw e refl
 without_short : (held : List Known) (o : Option Known) → length (without held o) ≤ length held
 without_short held None = omega arith
 without_short held (Some k) =
-    omega (arith, length-filter_both (λ m. not (is_version k m)) (is_version k) (λ m. sym (not-not (is_version k m))) held)
+    omega (
+      arith,
+      length-filter_both (λ m. not (is_version k m)) (is_version k)
+          (λ m. sym (not-not (is_version k m))) held,
+    )
 
 -- a hand that let go of a version can take in what it could before
-pub can_still : (h less : HandState) (o named : Option Known) → less ≡ holding h (without h.hands.held o)
+pub can_still : (h less : HandState) (o named : Option Known)
+    → less ≡ holding h (without h.hands.held o)
     → IfSome named (CanHold h) → IfSome named (CanHold less)
 can_still h less o None is can = tt
 can_still h less o (Some k) is can =
@@ -96,7 +111,8 @@ can_still h less o (Some k) is can =
 
 -- and two of which one is there at most, one after the other
 pub can_also : (h less more : HandState) (o named fresh : Option Known)
-    → less ≡ holding h (without h.hands.held o) → more ≡ holding less (with_held less.hands.held named)
+    → less ≡ holding h (without h.hands.held o)
+    → more ≡ holding less (with_held less.hands.held named)
     → IfSome named (λ k. fresh ≡ None) → IfSome fresh (CanHold h) → IfSome fresh (CanHold more)
 can_also h less more o named None a b one can = tt
 can_also h less more o None (Some k) a b one can =

@@ -18,14 +18,25 @@ pub mod FieldsRead
 pub mod CallerChanged
 pub mod AfterMove
 pub mod MoveNeeds
+pub mod MoveTaken
 pub mod LetGo
 pub mod Leading
+pub mod GivingOut
 -- what is known of a cycle
 pub mod Tracks
 pub mod Marks
 pub mod Following
 pub mod FoundWords
 pub mod RoleRows
+pub mod RoleTests
+pub mod RoleSteps
+pub mod RowsChanged
+pub mod RowsFreed
+pub mod RowsEnded
+pub mod RowsForgotten
+pub mod RowsReadied
+-- what own versions name
+pub mod Naming
 -- a fresh machine
 pub mod FirstVersions
 pub mod FirstMoment

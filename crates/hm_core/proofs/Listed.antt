@@ -1,5 +1,5 @@
 -- What a caller lists as published is at most as much as its regions have places.
-use Rattle.std.proofs.Common.{◌≡◌, ◌≢◌, ◌<◌, ◌≤◌, ◌+◌, ◌-◌, ◌*◌, ◌==◌, ◌||◌, ℕ, Bool, true, false, List, [], ◌∷◌, ◌++◌, length, map, Contains, refl, sym, ap, ◌∙◌, subst, arith, ⊎_elim, ne_eqb, eq-eqb, eqb-true, eqb}
+use Rattle.std.proofs.Common.{◌≡◌, ◌<◌, ◌≤◌, ◌+◌, ◌-◌, ◌*◌, ◌==◌, ◌||◌, ℕ, Bool, true, false, List, [], ◌∷◌, length, map, Contains, refl, ap, ◌∙◌, arith, ⊎_elim, ne_eqb, eq-eqb, eqb-true, eqb}
 use Rattle.std.specs.List.{IsDistinct, list_any}
 use Rattle.std.proofs.lemmas.Map.Steps.{length-le_from_distinct_below}
 use Rattle.std.proofs.lemmas.Map.Keys.{IsDistinct-cons}
@@ -16,7 +16,7 @@ use Rattle.hm_moves.specs.Cycles.{is_version}
 use Rattle.hm_moves.specs.Good.{AreApart, AreIndexed, published_of}
 use Rattle.hm_moves.specs.Places.{LiesIn, Places}
 use Rattle.hm_moves.proofs.Held.{contains_here, contains_behind}
-use Rattle.std.proofs.lemmas.List.Elements.{Contains-append_cases, Contains-append_left, Contains-append_right}
+use Rattle.std.proofs.lemmas.List.Elements.{Contains-append_cases}
 
 -- a version's number, counted from a first one on
 abbrev from_first : ℕ → Known → ℕ
@@ -54,8 +54,10 @@ distinct : (first n : ℕ) (ks : List Known) → AreIn first n ks → AreApart k
     → IsDistinct eqb (map (from_first first) ks)
 unfolding IsDistinct
 distinct first n [] all apart = tt
-distinct first n (k ∷ ks) all apart = IsDistinct-cons eqb (from_first first k) (map (from_first first) ks)
-    (none_so first n k ks (all k (contains_here k k ks refl)).0 (λ l c. all l (contains_behind l k ks c)) apart.0)
+distinct first n (k ∷ ks) all apart =
+    IsDistinct-cons eqb (from_first first k) (map (from_first first) ks)
+    (none_so first n k ks (all k (contains_here k k ks refl)).0
+    (λ l c. all l (contains_behind l k ks c)) apart.0)
     (distinct first n ks (λ l c. all l (contains_behind l k ks c)) apart.1)
 
 -- such a number is one of so many
@@ -77,8 +79,8 @@ below first n (k ∷ ks) all v e = go (eqb v (from_first first k)) refl e
 -- so there are at most as many
 few_apart : (first n : ℕ) (ks : List Known) → AreIn first n ks → AreApart ks → length ks ≤ n
 few_apart first n ks all apart =
-    let few = length-le_from_distinct_below (map (from_first first) ks) n (distinct first n ks all apart)
-    (below first n ks all) in
+    let few = length-le_from_distinct_below (map (from_first first) ks) n
+    (distinct first n ks all apart) (below first n ks all) in
     let same = length-map ks (from_first first) in omega arith
 
 -- a version of a caller lies in its numbers
@@ -98,7 +100,8 @@ lies_in s q k lies =
 
 -- what a caller lists as published is at most as much as its regions have places
 pub listed_few : (s : Shape) (q : ℕ) (index : Index) (places : Places) (hands : Hands)
-    → AreIndexed s q index places hands → length hands.left + length hands.own ≤ s.regions * s.versions
+    → AreIndexed s q index places hands
+    → length hands.left + length hands.own ≤ s.regions * s.versions
 listed_few s q index places hands h =
     let few = few_apart (q * (s.regions * s.versions)) (s.regions * s.versions) (published_of hands)
     (λ k c. ⊎_elim (λ (l : Contains hands.left k). lies_in s q k (h.left k l))

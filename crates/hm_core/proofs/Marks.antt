@@ -25,7 +25,8 @@ first_of true a b c = refl
 first_of false a b c = refl
 
 -- a load passes where it is one of a scan that goes on
-pub passes_look : {U : Type 0} (p : Part U) (m : Move) (found : Option Known) (l : Look) (scans : Bool)
+pub passes_look : {U : Type 0} (p : Part U) (m : Move) (found : Option Known) (l : Look)
+    (scans : Bool)
     → m.act ≡ Looks l → is_scan p m m.act ≡ scans
     → passes p m found m.act ≡ (scans && goes_on p l found)
 passes_look p m found l scans is told =

@@ -1,6 +1,6 @@
 -- Seats and callers of the running machine, as the state has them.
 use Rattle.std.proofs.Common.{true, false, Bool, Bor, Contains, IsTrue, nat_lt, length, get_or, inr, ⊎_elim, ◌-◌, ◌≡◌, ◌<◌, ◌+◌, ◌*◌, ◌^◌, ℕ, zero, suc, List, [], ◌∷◌, map, Option, Some, None, IfSome, refl, sym, ap, ◌∙◌, subst, arith, ◌↔◌, IsNone, ◌≤◌}
-use Rattle.std.specs.Prelude.{slice_get, slice_index}
+use Rattle.std.specs.Prelude.{slice_get}
 use Rattle.std.proofs.Math.Nat.{mul-le-mul_right}
 use Rattle.hm_core.specs.Running.{IsSmall}
 use Rattle.hm_moves.specs.After.{is_naming}
@@ -15,7 +15,8 @@ use Rattle.hm_core.proofs.Words.{any_store, any_entry, HasRoom, next_version, Is
 
 module _ {A B : Type 0} (f : A → B) where
   -- what a list has at a place, its image has there
-  pub map_at : (xs : List A) (j : ℕ) (x : A) → slice_get xs j ≡ Some x → get_elem? (map f xs) j ≡ some (f x)
+  pub map_at : (xs : List A) (j : ℕ) (x : A) → slice_get xs j ≡ Some x
+      → get_elem? (map f xs) j ≡ some (f x)
   map_at [] j x e = absurd (cc)
   map_at (y ∷ ys) zero x e = let is : y ≡ x = cc in ap (λ (z : A). some (f z)) is
   map_at (y ∷ ys) (suc j) x e = map_at ys j x e
@@ -48,13 +49,15 @@ got xs j (Some x) a b =
     ap Some b ∙ sym (slice_get-get_or xs j x.now low)
 
 -- of a list of options
-pub flat : {A : Type 0} (xs : List (Option A)) (j : ℕ) → option_flatten (slice_get xs j) ≡ slice_index_or xs j None
+pub flat : {A : Type 0} (xs : List (Option A)) (j : ℕ)
+    → option_flatten (slice_get xs j) ≡ slice_index_or xs j None
 flat [] j = refl
 flat (x ∷ xs) zero = refl
 flat (x ∷ xs) (suc j) = flat xs j
 
 -- a word that is not 0 is looked up by its number, less one
-pub looked : (ix : Index) (w : ℕ) (o : Option Known) → (w ≡ 0 → ⊥) → o ≡ ix (w - 1) → o ≡ lookup ix w
+pub looked : (ix : Index) (w : ℕ) (o : Option Known) → (w ≡ 0 → ⊥) → o ≡ ix (w - 1)
+    → o ≡ lookup ix w
 looked ix zero o ne is = absurd (ne refl)
 looked ix (suc v) o ne is = is ∙ ap ix (omega arith)
 
@@ -79,12 +82,14 @@ pub record IsSeated (m : Moment) (q : ℕ) (s : SeatState) : Type 0 where
   pub first : slice_get s.parts 0 ≡ Some q
 
 module _ (m : Moment) where
-  pub own_seat : (q : ℕ) (s : SeatState) → slice_get m.seats q ≡ Some s → seat_view m s ≡ own_view m q
+  pub own_seat : (q : ℕ) (s : SeatState) → slice_get m.seats q ≡ Some s
+      → seat_view m s ≡ own_view m q
   own_seat q s e = ap (seat_view m) (sym (get_or_from_slice_get m.seats q s no_seat e))
 
   pub view_at : (q : ℕ) (s : SeatState) → slice_get m.seats q ≡ Some s
       → get_elem? (core_of m).views q ≡ some (own_view m q)
-  view_at q s e = map_at (seat_view m) m.seats q s e ∙ ap (λ (v : View AnyUsage). some v) (own_seat q s e)
+  view_at q s e = map_at (seat_view m) m.seats q s e
+      ∙ ap (λ (v : View AnyUsage). some v) (own_seat q s e)
 
   -- a view that the state has is that of a seat
   pub view_from : (q : ℕ) (v : View AnyUsage) → get_elem? (core_of m).views q ≡ some v
@@ -98,8 +103,8 @@ module _ (m : Moment) where
   awake_seated q s h = record {
     carries = record {
       seat = view_at q s h.seat;
-      place = subst (λ (v : View AnyUsage). get_elem? v.parts 0 ≡ some (own_part m q)) (own_seat q s h.seat)
-          (map_at (own_part m) s.parts 0 q h.first);
+      place = subst (λ (v : View AnyUsage). get_elem? v.parts 0 ≡ some (own_part m q))
+          (own_seat q s h.seat) (map_at (own_part m) s.parts 0 q h.first);
     };
     number = refl;
   }
@@ -111,8 +116,8 @@ module _ (m : Moment) where
     pub view_is : v ≡ own_view m q
     pub part_is : p ≡ own_part m q
 
-  pub seated_awake : (q : ℕ) (v : View AnyUsage) (p : Part AnyUsage) → IsAwake (core_of m) q v p → Awakes q v
-      p
+  pub seated_awake : (q : ℕ) (v : View AnyUsage) (p : Part AnyUsage)
+      → IsAwake (core_of m) q v p → Awakes q v p
   seated_awake q v p h =
       let t = view_from q v h.carries.seat in
       let there : get_elem? (map (own_part m) t.0.parts) 0 ≡ some p =
@@ -132,18 +137,21 @@ module _ (m : Moment) where
         → PartIsGood (site_of m) (core_of m).heap (own_view m q).seen (own_part m q)
     part_good q h = (sound.good tt).parts q 0 (own_view m q) (own_part m q) h.carries
 
-    pub awake_below : (q : ℕ) → IsAwake (core_of m) q (own_view m q) (own_part m q) → q < m.shape.callers
+    pub awake_below : (q : ℕ) → IsAwake (core_of m) q (own_view m q) (own_part m q)
+        → q < m.shape.callers
     awake_below q h = (part_good q h).number
 
     -- a caller's next version lies in the Table, where it has room
-    pub next_fits : (q : ℕ) → IsAwake (core_of m) q (own_view m q) (own_part m q) → HasRoom (own_part m q)
+    pub next_fits : (q : ℕ) → IsAwake (core_of m) q (own_view m q) (own_part m q)
+        → HasRoom (own_part m q)
         → IsVersionOf m.shape (next_version (own_part m q))
     next_fits q awake room =
-        next_small any_store any_entry (core_of m).heap (own_view m q).seen (own_part m q) (sound.good tt).heap
-        (part_good q awake) room
+        next_small any_store any_entry (core_of m).heap (own_view m q).seen (own_part m q)
+        (sound.good tt).heap (part_good q awake) room
 
     -- a version that is known at a number is published
-    pub known_published : (v : ℕ) (k : Known) → index_of m.known v ≡ Some k → IsPublished (index_of m.known) k
+    pub known_published : (v : ℕ) (k : Known) → index_of m.known v ≡ Some k
+        → IsPublished (index_of m.known) k
     known_published v k e = let at = sound.numbered v k e in cc
 
     -- and fits
@@ -153,7 +161,8 @@ module _ (m : Moment) where
         let is = known_published v k e in
         record {
           version = placed.fits k is;
-          rank = rank_small m.shape (index_of m.known) (places_of m) placed (sound.good tt).heap.ranked k is;
+          rank = rank_small m.shape (index_of m.known) (places_of m) placed
+              (sound.good tt).heap.ranked k is;
           sized = placed.sized k is;
         }
 
@@ -182,24 +191,33 @@ module _ (m : Moment) where
     pub look_index : (q : ℕ) → IsAwake (core_of m) q (own_view m q) (own_part m q) → (k : Known)
         → MayLookInto (own_part m q) k → index_of m.known k.version.0 ≡ Some k
     look_index q awake k look =
-        look_published (core_of m).heap (own_view m q).seen (own_part m q) (part_good q awake) k look
+        look_published (core_of m).heap (own_view m q).seen (own_part m q)
+        (part_good q awake) k look
 
     -- a version that may be looked into by its number may be, as it is known
-    pub lookable_known : (q : ℕ) → IsAwake (core_of m) q (own_view m q) (own_part m q) → (v : Version)
+    pub lookable_known : (q : ℕ) → IsAwake (core_of m) q (own_view m q) (own_part m q)
+        → (v : Version)
         → IsLookable (own_part m q) v → (k : Known) × (index_of m.known v.0 ≡ Some k)
         × MayLookInto (own_part m q) k
-    lookable_known q awake v (k, look, is) =
-        (k, subst (λ (x : Version). index_of m.known x.0 ≡ Some k) is (look_index q awake k look), look)
+    lookable_known q awake v (k, look, is) = (
+      k,
+      subst (λ (x : Version). index_of m.known x.0 ≡ Some k) is
+          (look_index q awake k look),
+      look,
+    )
 
     -- the next object's count is that of the objects made
-    pub next_count : (q n : ℕ) → n ≡ made_count q (store_of m.history) → (next_name (own_part m q)).count ≡ n
-    next_count q n e = sym (made_count-legal q m.start m.history (sound.good tt).heap.history.legal) ∙ sym e
+    pub next_count : (q n : ℕ) → n ≡ made_count q (store_of m.history)
+        → (next_name (own_part m q)).count ≡ n
+    next_count q n e =
+        sym (made_count-legal q m.start m.history (sound.good tt).heap.history.legal) ∙ sym e
 
 -- a word is missing exactly where it is past the Table
 pub word_past : (m : Moment) → IsSound m → (i : ℕ) (o : Option ℕ) → o ≡ slice_get m.words i
     → IsNone o ↔ (word_count m.shape ≤ i)
 word_past m sound i o is = (
-  λ none. dite (dec_le (word_count m.shape) i) (λ past. past) (λ low. let wide = (sound.good tt).heap.wide in
+  λ none. dite (dec_le (word_count m.shape) i) (λ past. past)
+      (λ low. let wide = (sound.good tt).heap.wide in
       let there = slice_get-get_or m.words i 0 (omega arith) in absurd (cc)),
   λ past. rw (is ∙ slice_get_past m.words i (omega (arith, (sound.good tt).heap.wide))) refl,
 )

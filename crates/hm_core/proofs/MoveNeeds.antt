@@ -1,22 +1,21 @@
 -- What the code that takes a move needs: an entry that stands, stamps that fit, and room.
-use Rattle.std.proofs.Common.{◌≡◌, ◌<◌, ◌≤◌, ◌+◌, ◌*◌, ◌^◌, ℕ, zero, suc, List, [], ◌∷◌, ◌++◌, length, get_or, set, Option, Some, None, IfSome, refl, sym, ap, ◌∙◌, subst, arith}
+use Rattle.std.proofs.Common.{◌≡◌, ◌<◌, ◌≤◌, ◌+◌, ◌*◌, ◌^◌, ℕ, zero, suc, [], ◌∷◌, ◌++◌, length, Option, Some, None, IfSome, refl, sym, ap, ◌∙◌, subst, arith}
 use Rattle.std.specs.Prelude.{slice_index}
 use Rattle.std.proofs.Math.Nat.{mul-le-mul_right, mul-le-mul_left}
-use Rattle.hm_core.proofs.Words.{AnyUsage, Shape, get_or-set_same, dite, ℕ_discrete, from_some, Name, Contents, Stored, Changed, Entry, Fetch, Store, StoreIf, contents_of, IsThere, Stands, store_of, AllStand, all_stand_parts, Known, Part, LoadReference, Act, Looks, Builds, Move, Index, link_of, becomes, entry_of, finds, listed, next_version, publishes, word_of, row_of_part, HasHand, HasRoom, MayHold, MayLookInto, Reads, Turns, MayTake, IsLawfulMove, some_more, HasNextStamp, Row, HandState, hand_after, SeatState, IsAwake, Moment, any_store, any_entry, core_of, hand_at, index_of, known_with, own_part, own_view, row_at, row_with, seat_with, IsSound, caller_of, LoadLink, lookup, where_zero, name_of, CanPublish, CanFollow, IsOwnWord}
+use Rattle.hm_core.proofs.Words.{AnyUsage, dite, ℕ_discrete, from_some, Name, Contents, Stored, Changed, Entry, Fetch, Store, StoreIf, contents_of, IsThere, Stands, store_of, AllStand, all_stand_parts, Known, Part, LoadReference, Act, Looks, Builds, Move, Index, link_of, entry_of, finds, listed, next_version, publishes, word_of, HasHand, HasRoom, MayHold, MayLookInto, Reads, Turns, MayTake, IsLawfulMove, some_more, HasNextStamp, IsAwake, Moment, any_store, any_entry, core_of, hand_at, index_of, own_part, own_view, row_at, IsSound, caller_of, LoadLink, lookup, where_zero, name_of, CanPublish, CanFollow, IsOwnWord}
 use Rattle.hm_moves.specs.declared.moving.Build.TheVariants.{StoreOwn, Publish, LinkStore}
 use Rattle.hm_moves.specs.declared.moving.Act.TheVariants.{Ticks, Shifts}
+use Rattle.hm_moves.specs.declared.moving.Tick.TheVariants.{LoadStage, MoveStage, LoadReply, StoreReply}
+use Rattle.hm_shape.specs.Words.{stage_at}
+use Rattle.hm_core.proofs.FoundWords.{found_word}
 use Rattle.hm_moves.specs.Allowed.{HoldsClean, IsLaterThan}
 use Rattle.hm_moves.specs.Places.{total}
-use Rattle.std.proofs.lemmas.List.{set-set}
-use Rattle.hm_moves.specs.declared.part.End.{End}
-use Rattle.hm_moves.specs.Cycles.{found_end}
-use Rattle.hm_core.specs.Hands.{FindsWord, IsLookWord, ending}
-use Rattle.hm_core.specs.Stepping.{IsWork}
+use Rattle.hm_core.specs.Hands.{FindsWord, IsLookWord}
+use Rattle.hm_core.specs.Stepping.{IsPackable}
 use Rattle.hm_core.proofs.Listed.{listed_few}
 use Rattle.hm_moves.proofs.Heaps.{present_at}
 use Rattle.hm_core.proofs.Moments.{part_good, awake_below, known_small, look_index, done_few}
-use Rattle.hm_core.proofs.FieldsRead.{read_at, hand_below, hand_read, seat_read, row_read}
-use Rattle.hm_core.proofs.AfterMove.{after, sound_after, fresh_next, fresh_below, entry_own, own_room}
+use Rattle.hm_core.proofs.AfterMove.{fresh_next, entry_own, good_applied, own_room}
 
 certain : {A : Type 0} (P : Type 0) (o : Option A) → P → IfSome o (λ a. P)
 certain P None h = tt
@@ -92,15 +91,17 @@ module _ (m : Moment) (sound : IsSound m) (q : ℕ)
 
 module _ (m : Moment) (sound : IsSound m) (q : ℕ)
     (awake : IsAwake (core_of m) q (own_view m q) (own_part m q)) (mv : Move)
-    (may : IsLawfulMove any_store any_entry (core_of m).heap (own_part m q) mv) (work : IsWork mv.act) where
+    (may : IsLawfulMove any_store any_entry (core_of m).heap (own_part m q) mv) where
   abbrev x : ℕ
   x = slice_index m.words (word_of (own_part m q) mv.act)
 
   -- the entry that is made stands
   pub entry_stands : IfSome (entry_of q mv.act x) (Stands (store_of m.history))
-  entry_stands = go (entry_of q mv.act x) ((sound_after m q mv sound awake may work).good tt).heap.history.legal.stand
+  entry_stands =
+      go (entry_of q mv.act x) (good_applied m q mv sound awake may).heap.history.legal.stand
     where
-      go : (o : Option Entry) → AllStand [] (m.history ++ listed o) → IfSome o (Stands (store_of m.history))
+      go : (o : Option Entry) → AllStand [] (m.history ++ listed o)
+          → IfSome o (Stands (store_of m.history))
       go None h = tt
       go (Some e) h = (all_stand_parts [] m.history (e ∷ []) h).1.0
 
@@ -112,8 +113,8 @@ module _ (m : Moment) (sound : IsSound m) (q : ℕ)
       let stamp = small.stamp in
       subst (λ (o : Option Contents). IfSome o (λ c. c.stamp + 1 < 2 ^ 64))
       (sym (ap (contents_of (store_of m.history)) name
-      ∙ present_at any_store any_entry (core_of m).heap (own_view m q).seen (own_part m q) (sound.good tt).heap
-      (part_good m sound q awake) at look zero_link)) (omega arith)
+      ∙ present_at any_store any_entry (core_of m).heap (own_view m q).seen (own_part m q)
+      (sound.good tt).heap (part_good m sound q awake) at look zero_link)) (omega arith)
 
   abbrev May : Act → Type 0
   May = MayTake (IsThere (store_of m.history))
@@ -141,7 +142,7 @@ module _ (m : Moment) (sound : IsSound m) (q : ℕ)
   -- it is by one of the callers
   pub entry_below : IfSome (entry_of q mv.act x) (λ e. caller_of e < m.shape.callers)
   entry_below = some_more (λ (e : Entry). caller_of e ≡ q) _
-      (λ e by. omega (arith, awake_below m sound q awake)) _ (entry_own m q mv sound awake may work)
+      (λ e by. omega (arith, awake_below m sound q awake)) _ (entry_own m q mv sound awake may)
 
   own_word : (a : Act) → May a → IsOwnWord a
   own_word (Builds (StoreOwn i word)) h = h.below
@@ -153,11 +154,21 @@ module _ (m : Moment) (sound : IsSound m) (q : ℕ)
   look_word (Ticks t) h = tt
   look_word (Shifts f) h = tt
 
-  work_word : (a : Act) (y : ℕ) → IsWork a → FindsWord a y
-  work_word (Looks l) y w = tt
-  work_word (Builds b) y w = tt
-  work_word (Ticks t) y w = absurd w
-  work_word (Shifts f) y w = absurd w
+  -- what is found is a word of the act's
+  pub word_is : slice_index m.words stage_at < 2 ^ 64 → FindsWord mv.act x
+  word_is small =
+      let c = (sound.good tt).collects in
+      found_word (core_of m).heap c.moves c.state (own_part m q) c.rule c.heap small _ _ _ _
+      mv.act may.act
+
+  pub packs : (a : Act) (y : ℕ) → FindsWord a y → IsPackable a
+  packs (Looks l) y h = tt
+  packs (Builds b) y h = tt
+  packs (Ticks LoadStage) y h = tt
+  packs (Ticks (MoveStage from to)) y h = h
+  packs (Ticks (LoadReply of)) y h = tt
+  packs (Ticks (StoreReply reply)) y h = tt
+  packs (Shifts f) y h = tt
 
   -- what is published has a place among what its caller lists
   publish_room : (o : Option Known) → publishes mv.act x ≡ o → IfSome o (CanPublish (hand_at m q))
@@ -165,10 +176,11 @@ module _ (m : Moment) (sound : IsSound m) (q : ℕ)
   publish_room (Some k) is =
       let mine = sound.hands q (awake_below m sound q awake) in
       let size = mine.room in
-      let room = (from_some (λ (n : Known). (n.version ≡ next_version (own_part m q)) × HasRoom (own_part m q))
-      (publishes mv.act x) k is (fresh_next m q mv sound awake may work)).1 in
+      let room = (from_some
+      (λ (n : Known). (n.version ≡ next_version (own_part m q)) × HasRoom (own_part m q))
+      (publishes mv.act x) k is (fresh_next m q mv sound awake may)).1 in
       let most = m.shape.versions_fit in
-      let more = own_room m q mv sound awake may work k is in (omega arith, omega arith)
+      let more = own_room m q mv sound awake may k is in (omega arith, omega arith)
 
   -- the caller's hand can follow the move
   pub can_follow : slice_index m.words 0 < 2 ^ 64
@@ -178,7 +190,7 @@ module _ (m : Moment) (sound : IsSound m) (q : ℕ)
       let mine = sound.hands q (awake_below m sound q awake) in
       record {
         ready = record {
-          word = work_word mv.act x work;
+          word = word_is small;
           listed = own_listed m sound q awake;
           moves = moves_few m sound q awake small;
         };
@@ -196,139 +208,16 @@ module _ (m : Moment) (sound : IsSound m) (q : ℕ)
 -- what is counted of a row is small
 pub row_small : (m : Moment) (sound : IsSound m) (row : ℕ)
     → ((row_at m.rows row).used + 1 < 2 ^ 32) × ((row_at m.rows row).made + 1 < 2 ^ 64)
+    × ((row_at m.rows row).freed + 1 < 2 ^ 32)
 row_small m sound row =
     let r = row_at m.rows row in
     let filled : r.used ≤ m.shape.versions = (sound.good tt).heap.placed.filled row in
-    let made : r.made ≤ m.shape.versions * r.freed + r.used = (sound.good tt).heap.ranked.made row in
+    let made : r.made ≤ m.shape.versions * r.freed + r.used =
+    (sound.good tt).heap.ranked.made row in
+    let freed : r.freed ≤ m.done = (sound.good tt).heap.ranked.freed row in
     let none : m.shape.versions * r.freed ≤ m.shape.versions * m.done =
     mul-le-mul_left m.shape.versions ((sound.good tt).heap.ranked.freed row) in
     let few = m.shape.versions_fit in
     let small : m.shape.versions ≤ 65536 = omega arith in
     let most : m.shape.versions * m.done ≤ 65536 * m.done = mul-le-mul_right m.done small in
-    let done = done_few m sound in (omega arith, omega arith)
-
--- a word was read by the code that takes a lawful move: this one, where the moment has it
-pub record HasRead (a m : Moment) (q : ℕ) (mv : Move) (at y : ℕ) : Type 0 where
-  pub same : a ≡ m
-  pub sound : IsSound m
-  pub awake : IsAwake (core_of m) q (own_view m q) (own_part m q)
-  pub may : IsLawfulMove any_store any_entry (core_of m).heap (own_part m q) mv
-  pub work : IsWork mv.act
-  pub word : at ≡ word_of (own_part m q) mv.act
-  pub low : at < length m.words
-  pub got : y ≡ get_or a.words at y
-  pub stage : slice_index m.words 0 < 2 ^ 64
-
--- the stage's word is a word
-pub stage_small : (a m : Moment) → a ≡ m → IsSound a → (w : ℕ) → w ≡ get_or a.words 0 w → w < 2 ^ 64
-    → slice_index m.words 0 < 2 ^ 64
-stage_small a m same sound w is small =
-    let wide = sound.wide in
-    let long : 0 < length a.words = omega arith in
-    rw (sym same) (rw (sym (read_at a.words a.words 0 w 0 refl long is)) small)
-
-pub reading : {a m : Moment} {q : ℕ} {mv : Move} {at y : ℕ} → a ≡ m → IsSound a
-    → IsAwake (core_of m) q (own_view m q) (own_part m q)
-    → IsLawfulMove any_store any_entry (core_of m).heap (own_part m q) mv → IsWork mv.act → at ≡ word_of (own_part m q) mv.act
-    → at < length m.words → y ≡ get_or a.words at y → slice_index m.words 0 < 2 ^ 64
-    → HasRead a m q mv at y
-reading is sound awake may work word low got stage = record {
-  same = is;
-  sound = subst IsSound is sound;
-  awake = awake;
-  may = may;
-  work = work;
-  word = word;
-  low = low;
-  got = got;
-  stage = stage;
-}
-
--- ends that are noted are in nothing's way
-ending_follows : (h : HandState) (mv : Move) (y : ℕ) (f : Option Known) (ends : List End) → CanFollow h mv y f
-    → CanFollow (ending h ends) mv y f
-ending_follows h mv y f ends c = record {
-  ready = record { word = c.ready.word; listed = c.ready.listed; moves = c.ready.moves };
-  work = record {
-    found = c.work.found;
-    fresh = c.work.fresh;
-    room = c.work.room;
-    one = c.work.one;
-    word = c.work.word;
-  };
-  look = c.look;
-  cursor = c.cursor;
-}
-
-module _ {a m : Moment} {q : ℕ} {mv : Move} {at y : ℕ} (read : HasRead a m q mv at y) where
-  abbrev w : ℕ
-  w = slice_index m.words (word_of (own_part m q) mv.act)
-
-  -- the word that was found is that of the act
-  pub word_found : y ≡ slice_index m.words (word_of (own_part m q) mv.act)
-  word_found =
-      read_at a.words m.words at y 0 (ap (λ (z : Moment). z.words) read.same) read.low read.got
-      ∙ ap (λ (i : ℕ). get_or m.words i 0) read.word
-
-  -- what the entry needs
-  pub stands_now : (o : Option Entry) → o ≡ entry_of q mv.act y → IfSome o (Stands (store_of a.history))
-  stands_now o is =
-      rw (is ∙ ap (entry_of q mv.act) word_found, ap (λ (z : Moment). z.history) read.same)
-      (entry_stands m read.sound q read.awake mv read.may read.work)
-
-  pub stamp_now : (o : Option Entry) → o ≡ entry_of q mv.act y
-      → IfSome o (λ e. HasNextStamp (store_of a.history) e (2 ^ 64))
-  stamp_now o is =
-      rw (is ∙ ap (entry_of q mv.act) word_found, ap (λ (z : Moment). z.history) read.same)
-      (entry_stamp m read.sound q read.awake mv read.may read.work)
-
-  pub caller_now : (o : Option Entry) (makers : ℕ) → o ≡ entry_of q mv.act y → makers ≡ a.shape.callers
-      → IfSome o (λ e. caller_of e < makers)
-  caller_now o makers is count =
-      rw (is ∙ ap (entry_of q mv.act) word_found, count ∙ ap (λ (z : Moment). z.shape.callers) read.same)
-      (entry_below m read.sound q read.awake mv read.may read.work)
-
-  pub noted_again : (g h k : HandState) → g ≡ get_or a.hands q g → k ≡ ending g (found_end mv.act y)
-      → h ≡ get_or (set a.hands q k) q h → h ≡ ending g (found_end mv.act y)
-  noted_again g h k got noted again =
-      again ∙ get_or-set_same a.hands q k h (hand_below a m read.same read.sound q read.awake) ∙ noted
-
-  -- and the hand, once its ends are noted
-  pub follow_now : (g h k : HandState) (f : Option Known) → g ≡ get_or a.hands q g
-      → k ≡ ending g (found_end mv.act y) → h ≡ get_or (set a.hands q k) q h
-      → f ≡ finds (index_of m.known) mv.act y → CanFollow h mv y f
-  follow_now g h k f got noted again is =
-      rw (noted_again g h k got noted again) (ending_follows g mv y f (found_end mv.act y)
-      (rw (is, word_found, hand_read a m read.same read.sound q read.awake g got)
-      (can_follow m read.sound q read.awake mv read.may read.work read.stage)))
-
-  -- and the index
-  pub below_now : (n : Option Known) → n ≡ publishes mv.act y → IfSome n (λ k. k.version.0 < length a.known)
-  below_now n is =
-      rw (is ∙ ap (publishes mv.act) word_found, ap (λ (z : Moment). z.known) read.same)
-      (fresh_below m q mv read.sound read.awake read.may read.work)
-
-  -- the plain data that the code leaves are those after the move
-  pub after_is : (k : HandState) {b row : ℕ} {known : List (Option Known)} {es : List Entry} {r r' : Row} {h h' : HandState}
-      {s s' : SeatState} {o : Option Entry} {f n : Option Known}
-      → b ≡ becomes mv.act y → row ≡ row_of_part (own_part m q) → row < length m.rows
-      → known ≡ known_with a.known n → es ≡ a.history ++ listed o
-      → r ≡ get_or a.rows row r → r' ≡ row_with r n
-      → h ≡ get_or a.hands q h → h' ≡ hand_after a.shape q h mv y f
-      → s ≡ get_or a.seats q s → s' ≡ seat_with s (length a.history) o
-      → o ≡ entry_of q mv.act y → f ≡ finds (index_of m.known) mv.act y → n ≡ publishes mv.act y
-      → record a {
-        words = set a.words at b;
-        known = known;
-        rows = set a.rows row r';
-        history = es;
-        hands = set (set a.hands q k) q h';
-        seats = set a.seats q s';
-      } ≡ after m q mv
-  after_is k {b} {row} {known} {es} {r} {r'} {h} {h'} {s} {s'} {o} {f} {n} eb erow lrow ek ees er er' eh eh' es' es'' eo ef en =
-      let r_is = row_read a m read.same read.sound q read.awake row r lrow er in
-      let h_is = hand_read a m read.same read.sound q read.awake h eh in
-      let s_is = seat_read a m read.same read.sound q read.awake s es' in
-      let twice = set-set a.hands q k h' in
-      let followed = subst (λ (z : Shape). h' ≡ hand_after z q h mv y f) (ap (λ (z : Moment). z.shape) read.same) eh' in
-      let x_is = word_found in let same = read.same in let word = read.word in cc
+    let done = done_few m sound in (omega arith, omega arith, omega arith)

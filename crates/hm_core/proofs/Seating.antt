@@ -36,7 +36,8 @@ module _ (m : Moment) where
       let w = seated_awake m q v p a in let both = e ∙ w.seated.seat in cc
 
   module _ (sound : IsSound m) where
-    pub seated_alone : (q : ℕ) (s : SeatState) → Some s ≡ slice_get m.seats q → slice_get s.parts 0 ≡ Some q
+    pub seated_alone : (q : ℕ) (s : SeatState) → Some s ≡ slice_get m.seats q
+        → slice_get s.parts 0 ≡ Some q
         → length s.parts ≡ 1 → (q < m.shape.callers) × IsAlone (core_of m) q
     seated_alone q s e first one =
         let awake = awake_seated m q s record { seat = sym e; first = first } in
@@ -44,7 +45,8 @@ module _ (m : Moment) where
         ∙ ap (map (own_part m)) (lone s.parts q first one) in
         (awake_below m sound q awake, (own_view m q, own_part m q, awake, view))
 
-    pub alone_seated : (q : ℕ) (s : SeatState) → Some s ≡ slice_get m.seats q → IsAlone (core_of m) q
+    pub alone_seated : (q : ℕ) (s : SeatState) → Some s ≡ slice_get m.seats q
+        → IsAlone (core_of m) q
         → (slice_get s.parts 0 ≡ Some q) × (length s.parts ≡ 1)
     alone_seated q s e (v, p, awake, one) =
         let w = seated_awake m q v p awake in
@@ -62,7 +64,8 @@ module _ (m : Moment) where
         let legal = (sound.good tt).heap.history.legal in
         let long = ap length legal.begins ∙ length-append (opening_of m.start) legal.rest in
         let last = length-append (side_entries 0 m.start.sides)
-        (Create 0 (common_name m.start) (side_names 0 m.start.sides) m.start.numbers ∷ []) in omega arith
+        (Create 0 (common_name m.start) (side_names 0 m.start.sides) m.start.numbers ∷ []) in
+        omega arith
 
     pub note_iff : (i : ℕ) (s : SeatState) → Some s ≡ slice_get m.seats (m.shape.callers + i)
         → (0 < s.seen) ↔ MayMeet (core_of m) m.shape.callers 0 (Note i)
@@ -72,7 +75,8 @@ module _ (m : Moment) where
         let same = ap (λ (v : View AnyUsage). v.seen) (own_seat m j s (sym e)) in (
           λ low. (own_view m j, view_at m j s (sym e), λ none. some.0 low (same ∙ none)),
           λ (w, there, some_seen). let t = view_from m j w there in
-              some.1 (λ none. some_seen (ap (λ (v : View AnyUsage). v.seen) t.2 ∙ (sym same ∙ none))),
+              some.1 (λ none.
+              some_seen (ap (λ (v : View AnyUsage). v.seen) t.2 ∙ (sym same ∙ none))),
         )
 
     pub none_note : (i : ℕ) → None ≡ slice_get m.seats (m.shape.callers + i)

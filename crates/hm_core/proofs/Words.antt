@@ -1,4 +1,4 @@
--- The words that these proofs speak of, and the lemmas of lower crates that they cite, from one place.
+-- The words of these proofs, and the lemmas of lower crates that they cite, from one place.
 pub use Rattle.std.proofs.lemmas.Grind.{common_steps, get_or-set_at}
 pub use Rattle.std.proofs.Math.Path.{fun_ext}
 pub use Rattle.std.proofs.lemmas.Bool.Decides.{nat_tests}

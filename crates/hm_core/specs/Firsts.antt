@@ -28,7 +28,8 @@ creates_of firsts = map (λ k. Create 0 k.name k.contents.refs k.contents.number
 -- the first row has as many versions, and all others none
 abbrev pub first_rows : Shape → ℕ → List Row
 first_rows s count =
-    slice_set (replicate (row_count s) no_row) 0 record { used = count; made = count; freed = 0; dead = false }
+    slice_set (replicate (row_count s) no_row) 0
+    record { used = count; made = count; freed = 0; dead = false }
 
 -- each caller holds the common object's version, and the first caller published all
 abbrev pub first_hands : Shape → Known → List Known → List HandState

@@ -168,7 +168,7 @@ cycle_loaded q c of x = record c {
   };
 }
 
--- and after it stored its own by a join, a turn or a reuse
+-- and after it stored its own roles by a join
 abbrev pub cycle_joined : Cycle → Roles → Cycle
 cycle_joined c roles = record c {
   ties = record {
@@ -180,9 +180,11 @@ cycle_joined c roles = record c {
   scan = without_masks c.scan;
 }
 
+-- or by a turn, which changes the roles alone
 abbrev pub cycle_turned : Cycle → Roles → Cycle
 cycle_turned c roles = record c { ties = record c.ties { roles = roles } }
 
+-- or by a reuse, after which it is not joined and has no masks
 abbrev pub cycle_reused : Cycle → Roles → Cycle
 cycle_reused c roles = record c {
   ties = record c.ties { roles = roles; joined = false };

@@ -5,5 +5,7 @@ pub mod Chronicles
 pub mod Running
 pub mod Tables
 pub mod Taking
+pub mod Giving
 pub mod Firsts
+pub mod Rows
 pub mod Playing

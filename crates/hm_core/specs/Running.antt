@@ -1,5 +1,5 @@
 -- The running machine: its plain data, and the moment of the heap that they tell.
-use Rattle.std.specs.Prelude.{◌≡◌, ℕ, ◌+◌, ◌*◌, ◌/◌, ◌%◌, ◌≤◌, ◌<◌, ◌^◌, false, List, length, map, take, slice_index_or, slice_set, Option, Some, None}
+use Rattle.std.specs.Prelude.{◌≡◌, ℕ, ◌+◌, ◌*◌, ◌/◌, ◌%◌, ◌≤◌, ◌<◌, ◌^◌, false, List, length, map, take, slice_get, slice_index_or, slice_set, Option, Some, None}
 use Rattle.hm_shape.specs.declared.roles.Role.{Role}
 use Rattle.hm_shape.specs.declared.shape.Shape.{Shape}
 use Rattle.hm_shape.specs.Versions.{version_count}
@@ -13,8 +13,8 @@ use Rattle.hm_moves.specs.declared.part.Known.{Known}
 use Rattle.hm_moves.specs.declared.part.Site.{Site}
 use Rattle.hm_moves.specs.declared.part.Part.{Part}
 use Rattle.hm_moves.specs.declared.part.View.{View}
-use Rattle.hm_moves.specs.Chain.{Index}
-use Rattle.hm_moves.specs.Cycles.{role_at}
+use Rattle.hm_moves.specs.Chain.{Index, lookup, words_at}
+use Rattle.hm_moves.specs.Cycles.{field_count, field_word, meets, role_at}
 use Rattle.hm_moves.specs.Places.{Places, row_count}
 use Rattle.hm_moves.specs.After.{count_of, view}
 use Rattle.hm_moves.specs.Good.{Core, Good}
@@ -87,6 +87,7 @@ places_by s hands rows done = record {
   done = done;
 }
 
+-- and a machine's by its own
 abbrev pub places_of : Moment → Places
 places_of m = places_by m.shape m.hands m.rows m.done
 
@@ -141,6 +142,11 @@ pub record IsSound (m : Moment) : Type 0 where
   pub hands : (q : ℕ) → q < m.shape.callers → IsSoundHand m (hand_at m q)
   -- no seat has seen more than the history
   pub seen : (j : ℕ) → (seat_at m j).seen ≤ length m.history
+
+-- the i-th own version of a caller names nothing that the caller knows as from-space
+abbrev pub NamesClean : Moment → Part AnyUsage → ℕ → Type 0
+NamesClean m p i = (k : Known) (f : ℕ) → slice_get p.hands.own i ≡ Some k → f < field_count
+    → meets p (lookup (index_of m.known) (words_at m.shape m.words k (field_word f))) ≡ false
 
 -- stamp and rank of a version can be raised
 pub record IsSmall (k : Known) : Type 0 where

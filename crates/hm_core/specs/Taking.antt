@@ -10,10 +10,10 @@ use Rattle.hm_moves.specs.After.{view_letting}
 use Rattle.hm_moves.specs.Good.{Core, applied, released, split, joined}
 use Rattle.hm_core.specs.declared.step.Step.{Step}
 use Rattle.hm_core.specs.declared.step.StepKind.{StepKind}
-use Rattle.hm_core.specs.declared.step.StepKind.TheVariants.{StoreOwn, Publish, Split, Meet}
+use Rattle.hm_core.specs.declared.step.StepKind.TheVariants.{StoreOwn, Publish, Split, Meet, StoreReply, StoreRoles, Shorten}
 use Rattle.hm_core.specs.declared.step.StepRefused.{StepRefused}
 use Rattle.hm_core.specs.declared.step.StepRefused.TheVariants as refused
-use Rattle.hm_core.specs.Stepping.{seat_of, act_of, scan_of, IsAwake, HasSeat, HoldsWhatItNeeds, IsHeld, MayHoldMore, HasPlace, HasWords, Fits}
+use Rattle.hm_core.specs.Stepping.{seat_of, act_of, scan_of, IsAwake, HasSeat, HoldsWhatItNeeds, IsHeld, MayHoldMore, HasPlace, HasWords, Fits, MayMove, MayAnswer, MayRole, IsFurther}
 use Rattle.hm_core.specs.Running.{Moment, core_of, own_part, own_view, index_of}
 
 -- what a step lets go of is known by its number
@@ -26,6 +26,9 @@ answer_of (StoreOwn i word) x = 0
 answer_of (Publish entry) x = 0
 answer_of Split x = 0
 answer_of (Meet other) x = 0
+answer_of (StoreReply kind) x = 0
+answer_of (StoreRoles roles) x = 0
+answer_of (Shorten v i u) x = 0
 answer_of kind x = x
 
 -- a step that is an act moves its word
@@ -69,6 +72,26 @@ Becomes m n step word (Meet other) =
     (joined_to m step.caller (let_go_of m step.let_go) (seat_of m.shape.callers other)) n word
 Becomes m n step word kind = Moves m n step word
 
+-- the conditions on the cycle: of stage, reply and roles, and of what is copied or shortened
+pub record AreFurtherMet (m : Moment) (q : ℕ) (kind : StepKind) : Type 0 where
+  pub stage : MayMove (own_part m q) kind
+  pub reply : MayAnswer (core_of m) (own_part m q) kind
+  pub roles : MayRole (own_part m q) kind
+  pub later : IsFurther (core_of m) (own_part m q) kind
+
+-- the first of them that fails
+abbrev pub IsFurtherRefusedFor : Moment → ℕ → StepKind → StepRefused → Type 0
+IsFurtherRefusedFor m q kind refused.Stage = ¬ MayMove (own_part m q) kind
+IsFurtherRefusedFor m q kind refused.Reply =
+    MayMove (own_part m q) kind × ¬ MayAnswer (core_of m) (own_part m q) kind
+IsFurtherRefusedFor m q kind refused.Roles =
+    MayMove (own_part m q) kind × MayAnswer (core_of m) (own_part m q) kind
+    × ¬ MayRole (own_part m q) kind
+IsFurtherRefusedFor m q kind refused.Later =
+    MayMove (own_part m q) kind × MayAnswer (core_of m) (own_part m q) kind
+    × MayRole (own_part m q) kind × ¬ IsFurther (core_of m) (own_part m q) kind
+IsFurtherRefusedFor m q kind e = ⊥
+
 -- the refusals in the order in which their conditions are tested
 abbrev pub order_of : StepRefused → ℕ
 order_of refused.Caller = 0
@@ -77,7 +100,11 @@ order_of refused.Holds = 2
 order_of refused.Place = 3
 order_of refused.Words = 4
 order_of refused.Change = 5
-order_of refused.Memory = 6
+order_of refused.Stage = 6
+order_of refused.Reply = 7
+order_of refused.Roles = 8
+order_of refused.Later = 9
+order_of refused.Memory = 10
 
 -- a step that is not refused needs these conditions; for memory it may always be refused
 abbrev pub Condition : Moment → Step → StepRefused → Type 0
@@ -91,6 +118,10 @@ Condition m step refused.Holds = MayHoldMore (own_part m step.caller) step.kind
 Condition m step refused.Place = HasPlace (own_part m step.caller) step.kind
 Condition m step refused.Words = HasWords (own_part m step.caller) step.kind
 Condition m step refused.Change = Fits (core_of m) (own_part m step.caller) step.kind
+Condition m step refused.Stage = MayMove (own_part m step.caller) step.kind
+Condition m step refused.Reply = MayAnswer (core_of m) (own_part m step.caller) step.kind
+Condition m step refused.Roles = MayRole (own_part m step.caller) step.kind
+Condition m step refused.Later = IsFurther (core_of m) (own_part m step.caller) step.kind
 Condition m step refused.Memory = ⊥
 
 -- the conditions that are tested before that of a refusal hold

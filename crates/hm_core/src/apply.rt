@@ -21,14 +21,17 @@ impl From<AllocError> for StepRefused {
 impl Machine {
     ghost use Rattle.std.specs.Prelude.{◌<◌, length};
     ghost use Rattle.hm_core.specs.declared.step.StepRefused.TheVariants.{Memory};
-    ghost use Rattle.hm_core.specs.Stepping.{seat_of as place_of, IsAct};
-    ghost use Rattle.hm_core.specs.Running.{any_store, any_entry, core_of, site_of, IsSound};
+    ghost use Rattle.hm_core.specs.Stepping.{seat_of as place_of, HoldsWhatItNeeds, IsAct, IsAwake};
+    ghost use Rattle.hm_core.specs.Running.{any_store, any_entry, core_of, own_part, own_view, site_of, IsSound};
     ghost use Rattle.hm_moves.specs.Safe.{Leads};
-    ghost use Rattle.hm_core.specs.Taking.{let_go_of as known_to_go, Becomes, IsAdmitted, IsRefusedFor, Moves, Takes};
+    ghost use Rattle.hm_core.specs.Giving.{GivesNoneAgain};
+    ghost use Rattle.hm_core.specs.Taking.{let_go_of as known_to_go, Becomes, IsAdmitted, IsRefusedFor, Moves, AreFurtherMet, IsFurtherRefusedFor, Takes};
 
-    /// Takes one step, and answers the word that was found: 0 for a StoreOwn, a Publish, a Split and a Meet.
+    /// Takes one step, and answers the word that was found: 0 for a StoreOwn, a Publish, a Split, a Meet, a StoreReply, a
+    /// StoreRoles and a Shorten.
     pub fn apply(&mut self, s: &Step) -> Result<u64, StepRefused>
         ensures accepted { IfOk result (λ word. Takes self.old s.now word self.new) }
+        ensures given { OnOk result (GivesNoneAgain self.old self.new) }
         ensures refused { IfErr result (IsRefusedFor self.old s.now) }
         ensures unchanged { OnErr result (self.new ≡ self.old) }
         ensures leads { Leads any_store any_entry (core_of self.old) (core_of self.new) }
@@ -114,6 +117,30 @@ impl Machine {
         if !self.fits(s.caller, &s.kind) {
             return Err(StepRefused::Change);
         }
+        self.admit_cycle(s.caller, &s.kind)
+    }
+
+    // The first of the conditions on the cycle that fails, if any.
+    fn admit_cycle(&self, caller: u32, kind: &StepKind) -> Result<(), StepRefused>
+        requires caller { caller < self.now.shape.callers }
+        requires awake { IsAwake (core_of self.now) caller (own_view self.now caller)
+            (own_part self.now caller) }
+        requires needs { HoldsWhatItNeeds (own_part self.now caller) kind.now }
+        ensures met { OnOk result (AreFurtherMet self.now caller kind.now) }
+        ensures refused { IfErr result (IsFurtherRefusedFor self.now caller kind.now) }
+    {
+        if !self.may_move(caller, kind) {
+            return Err(StepRefused::Stage);
+        }
+        if !self.may_answer(caller, kind) {
+            return Err(StepRefused::Reply);
+        }
+        if !self.may_role(caller, kind) {
+            return Err(StepRefused::Roles);
+        }
+        if !self.is_further(caller, kind) {
+            return Err(StepRefused::Later);
+        }
         Ok(())
     }
 
@@ -126,10 +153,10 @@ impl Machine {
         ensures site { site_of self.new ≡ site_of self.old }
         ensures unchanged { OnErr result (self.new ≡ self.old) }
     {
+        let let_go = self.let_go_of(s.let_go);
         let Some(act) = self.act_of(s.caller, &s.kind) else {
             unreachable!()
         };
-        let let_go = self.let_go_of(s.let_go);
         let x = self.take(
             s.caller,
             &Move {
@@ -139,7 +166,11 @@ impl Machine {
             },
         )?;
         Ok(match s.kind {
-            StepKind::StoreOwn { .. } | StepKind::Publish { .. } => 0,
+            StepKind::StoreOwn { .. }
+            | StepKind::Publish { .. }
+            | StepKind::StoreReply { .. }
+            | StepKind::StoreRoles { .. }
+            | StepKind::Shorten { .. } => 0,
             _ => x,
         })
     }

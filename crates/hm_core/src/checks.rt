@@ -2,8 +2,8 @@
 ghost use Rattle.std.specs.Prelude.{◌≡◌, ◌<◌, ◌↔◌, true, IsTrue, IfSome};
 ghost use Rattle.hm_core.specs.declared.step.Other.TheVariants.{Note};
 
-use crate::hand::names_a_version;
 use crate::machine::Machine;
+use crate::names::names_a_version;
 use crate::step::{Other, StepKind};
 use hm_shape::{VERSION_WORDS, Version};
 
@@ -39,6 +39,7 @@ impl Machine {
             StepKind::Meet {
                 other: Other::Caller(r),
             } => r != caller && self.is_alone(r),
+            StepKind::LoadReply { p } | StepKind::LoadRoles { p } => p < self.callers(),
             _ => true,
         }
     }
@@ -95,8 +96,10 @@ impl Machine {
         match *kind {
             StepKind::LoadField { v, .. }
             | StepKind::LoadLink { v, .. }
-            | StepKind::LinkStore { v, .. } => self.may_look_into(caller, v),
+            | StepKind::LinkStore { v, .. }
+            | StepKind::LinkCopy { v } => self.may_look_into(caller, v),
             StepKind::StoreOwn { i, word } => self.is_named(caller, i, word),
+            StepKind::Shorten { u, .. } => self.holds(caller, u),
             _ => true,
         }
     }
@@ -110,7 +113,8 @@ impl Machine {
             StepKind::LoadField { .. }
             | StepKind::LoadLink { .. }
             | StepKind::Publish { .. }
-            | StepKind::LinkStore { .. } => self.has_hand(caller),
+            | StepKind::LinkStore { .. }
+            | StepKind::LinkCopy { .. } => self.has_hand(caller),
             _ => true,
         }
     }
@@ -123,7 +127,9 @@ impl Machine {
         match *kind {
             StepKind::LoadField { i, .. } => 0 < i && i < VERSION_WORDS,
             StepKind::StoreOwn { i, .. } => self.has_room(caller) && i < VERSION_WORDS,
-            StepKind::Publish { .. } | StepKind::LinkStore { .. } => self.has_room(caller),
+            StepKind::Publish { .. } | StepKind::LinkStore { .. } | StepKind::LinkCopy { .. } => {
+                self.has_room(caller)
+            }
             _ => true,
         }
     }
@@ -148,7 +154,9 @@ impl Machine {
     {
         match *kind {
             StepKind::Publish { .. } => self.are_written_from(caller, 1),
-            StepKind::LinkStore { .. } => self.are_written_from(caller, 0),
+            StepKind::LinkStore { .. } | StepKind::LinkCopy { .. } => {
+                self.are_written_from(caller, 0)
+            }
             _ => true,
         }
     }

@@ -1,21 +1,20 @@
 //! A move cut into the word that it moves, what that becomes, and what it makes and finds.
-ghost use Rattle.std.specs.Prelude.{◌≡◌, ◌+◌, ◌*◌, ◌<◌, ◌≤◌, ◌^◌, length};
+ghost use Rattle.std.specs.Prelude.{◌≡◌, ◌+◌, ◌<◌, ◌^◌, length};
 ghost use Rattle.hm_model.specs.declared.entry.Entry.TheVariants.{Create};
 ghost use Rattle.hm_moves.specs.Acts.{word_of as moved_word, becomes as word_after, entry_of, publishes as published_by, finds as found_by, field_look as field_load};
-ghost use Rattle.hm_moves.specs.Acts.{build_word, built_word, looked_at, looked_word, shift_word, shifted_word, tick_word, ticked_word};
-ghost use Rattle.hm_moves.specs.Allowed.{HoldsClean, IsLaterThan, IsWordOf, MayBuild, MayShift, MayTake, MayTick};
-ghost use Rattle.hm_moves.specs.Decoding.{seen_word as word_of_seen};
+ghost use Rattle.hm_moves.specs.Acts.{build_word, built_word, listed, looked_at, looked_word};
+ghost use Rattle.hm_moves.specs.Allowed.{HoldsClean, IsLaterThan, IsWordOf, MayBuild, MayTake};
+ghost use Rattle.hm_moves.specs.Cycles.{found_end};
 ghost use Rattle.hm_shape.specs.Layout.{version_words};
-ghost use Rattle.hm_shape.specs.Words.{phase_number as number_of_phase};
-ghost use Rattle.hm_moves.specs.declared.moving.Act.TheVariants.{Ticks};
-ghost use Rattle.hm_core.specs.Stepping.{act_of as act_by, first_known as first_of, later_known as later_of, HasPlace, IsPackable, IsShiftOf, IsTickOf};
+ghost use Rattle.hm_core.specs.Stepping.{act_of as act_by, copy_known as copy_of, first_known as first_of, later_known as later_of, own_reply, HasPlace, IsPackable};
 
 use crate::contents::{new_contents, with_all, with_field};
 use crate::machine::Machine;
 use crate::step::StepKind;
+use crate::ticking::{becomes_shifted, becomes_ticked, seen_of, shift_at, shift_of, tick_at};
 use hm_model::{Entry, Tried};
-use hm_moves::{Act, Build, Known, Look, Seen, Shift, Tick};
-use hm_shape::{FIRST_NUMBER, FIRST_REFERENCE, LINK, Phase, STAGE_AT, STAMP, Shape, Version};
+use hm_moves::{Act, Build, End, Known, Look, Shift, Tick};
+use hm_shape::{FIRST_NUMBER, FIRST_REFERENCE, LINK, Reply, ReplyKind, STAMP, Version};
 
 // What the word that an act moves becomes, where this was found.
 pub(crate) fn becomes(act: &Act, found: u64) -> u64
@@ -48,55 +47,6 @@ fn becomes_built(build: &Build, found: u64) -> u64
     }
 }
 
-// For a tick.
-fn becomes_ticked(tick: &Tick, found: u64) -> u64
-    requires { IsPackable (Ticks tick.now) }
-    ensures { result ≡ ticked_word tick.now found }
-{
-    match *tick {
-        Tick::LoadStage | Tick::LoadReply { .. } => found,
-        Tick::MoveStage { from, to } => {
-            if found == seen_word(from) {
-                seen_word(to)
-            } else {
-                found
-            }
-        }
-        Tick::StoreReply { reply } => reply.pack(),
-    }
-}
-
-// And for a step on roles.
-fn becomes_shifted(shift: &Shift, found: u64) -> u64
-    ensures { result ≡ shifted_word shift.now found }
-{
-    match *shift {
-        Shift::LoadRoles { .. } => found,
-        Shift::Join { roles, .. } | Shift::Turn { roles, .. } | Shift::Reuse { roles } =>
-            roles.pack(),
-    }
-}
-
-// The word of a stage.
-pub(crate) fn seen_word(stage: Seen) -> u64
-    requires { stage.done < 2 ^ 30 }
-    ensures { result ≡ word_of_seen stage }
-{
-    u64::from(stage.number) * (1 << 32) + u64::from(stage.done) * 4 + phase_number(stage.phase)
-}
-
-// The number of a phase, in the order of a cycle.
-fn phase_number(phase: Phase) -> u64
-    ensures { result ≡ number_of_phase phase }
-{
-    match phase {
-        Phase::Idle => 0,
-        Phase::Join => 1,
-        Phase::First => 2,
-        Phase::Second => 3,
-    }
-}
-
 // The entry that a caller makes by an act, where this was found.
 pub(crate) fn entry(act: &Act, caller: u32, found: u64) -> Option<Entry>
     ensures { result ≡ entry_of caller act.now found }
@@ -116,6 +66,19 @@ pub(crate) fn publishes(act: &Act, found: u64) -> Option<Known>
     match *act {
         Act::Builds(Build::Publish { fresh }) => Some(fresh),
         Act::Builds(Build::LinkStore { fresh, .. }) if found == 0 => Some(fresh),
+        _ => None,
+    }
+}
+
+// The end of a chain that an act finds: of a load of a link that finds 0.
+pub(crate) fn end_found(act: &Act, found: u64) -> Option<End>
+    ensures { listed result ≡ found_end act.now found }
+{
+    match *act {
+        Act::Looks(Look::LoadLink { at, .. }) if found == 0 => Some(End {
+            name: at.name,
+            rank: at.rank,
+        }),
         _ => None,
     }
 }
@@ -214,30 +177,16 @@ fn later_known(version: Version, at: &Known, entry: &Entry) -> Option<Known>
     })
 }
 
-// The word that a tick moves.
-fn tick_at(shape: Shape, caller: u32, tick: &Tick) -> u64
-    requires caller { caller < shape.callers }
-    requires of { IsTickOf shape.callers tick.now }
-    ensures value { result ≡ tick_word caller tick.now }
-    ensures below { result ≤ shape.callers }
+// A copy of a version, to come behind it.
+fn copy_known(version: Version, at: &Known) -> Known
+    requires { at.now.rank + 1 < 2 ^ 64 }
+    ensures { result ≡ copy_of version at.now }
 {
-    match *tick {
-        Tick::LoadStage | Tick::MoveStage { .. } => STAGE_AT,
-        Tick::LoadReply { of } => shape.reply_at(of),
-        Tick::StoreReply { .. } => shape.reply_at(caller),
-    }
-}
-
-// The word that a step on roles moves.
-fn shift_at(shape: Shape, caller: u32, shift: &Shift) -> u64
-    requires caller { caller < shape.callers }
-    requires of { IsShiftOf shape.callers shift.now }
-    ensures value { result ≡ shift_word shape caller shift.now }
-    ensures below { result ≤ 2 * shape.callers }
-{
-    match *shift {
-        Shift::LoadRoles { of } => shape.roles_at(of),
-        Shift::Join { .. } | Shift::Turn { .. } | Shift::Reuse { .. } => shape.roles_at(caller),
+    Known {
+        version,
+        name: at.name,
+        rank: at.rank + 1,
+        contents: at.contents,
     }
 }
 
@@ -246,6 +195,7 @@ impl Machine {
     ghost use Rattle.hm_model.specs.History.{store_of};
     ghost use Rattle.hm_shape.specs.Versions.{IsVersionOf};
     ghost use Rattle.hm_shape.specs.Words.{word_at};
+    ghost use Rattle.hm_core.specs.declared.step.StepKind.TheVariants.{LinkCopy, LinkStore};
     ghost use Rattle.hm_core.specs.Stepping.{IsAwake};
     ghost use Rattle.hm_core.specs.Running.{core_of, index_of, own_part, own_view};
 
@@ -268,15 +218,68 @@ impl Machine {
             StepKind::Publish { entry } => Some(Act::Builds(Build::Publish {
                 fresh: first_known(self.next_version(caller), &entry)?,
             })),
-            StepKind::LinkStore { v, entry } => {
-                let at = self.known(v)?;
-                Some(Act::Builds(Build::LinkStore {
-                    at,
-                    fresh: later_known(self.next_version(caller), &at, &entry)?,
-                    entry: Some(entry),
-                }))
-            }
+            StepKind::LinkStore { v, entry } => self.link_store(caller, v, &entry),
             StepKind::Split | StepKind::Meet { .. } => None,
+            StepKind::LoadStage => Some(Act::Ticks(Tick::LoadStage)),
+            StepKind::MoveStage { to } => Some(Act::Ticks(Tick::MoveStage {
+                from: self.hand(caller).track().stage(),
+                to: seen_of(to),
+            })),
+            StepKind::LoadReply { p } => Some(Act::Ticks(Tick::LoadReply { of: p })),
+            StepKind::StoreReply { kind } => Some(Act::Ticks(Tick::StoreReply {
+                reply: self.own_reply(caller, kind),
+            })),
+            StepKind::LoadRoles { p } => Some(Act::Shifts(Shift::LoadRoles { of: p })),
+            StepKind::StoreRoles { roles } => {
+                Some(Act::Shifts(shift_of(self.hand(caller).region(), roles)?))
+            }
+            StepKind::LinkCopy { v } => self.link_copy(caller, v),
+            StepKind::Shorten { v, i, u } => Some(Act::Builds(Build::Shorten {
+                at: self.known(v)?,
+                i: u64::from(i),
+                target: self.known(u)?,
+            })),
+        }
+    }
+
+    // The exchange of a link by which a caller stores behind a version.
+    fn link_store(&self, caller: u32, v: Version, entry: &Entry) -> Option<Act>
+        requires caller { caller < self.now.shape.callers }
+        requires place { HasPlace (own_part self.now caller) (LinkStore v entry.now) }
+        ensures { result ≡ act_by (index_of self.now.known) (own_part self.now caller)
+            (LinkStore v entry.now) }
+    {
+        let at = self.known(v)?;
+        Some(Act::Builds(Build::LinkStore {
+            at,
+            fresh: later_known(self.next_version(caller), &at, entry)?,
+            entry: Some(*entry),
+        }))
+    }
+
+    // And the one by which it copies a version.
+    fn link_copy(&self, caller: u32, v: Version) -> Option<Act>
+        requires caller { caller < self.now.shape.callers }
+        requires place { HasPlace (own_part self.now caller) (LinkCopy v) }
+        ensures { result ≡ act_by (index_of self.now.known) (own_part self.now caller)
+            (LinkCopy v) }
+    {
+        let at = self.known(v)?;
+        Some(Act::Builds(Build::LinkStore {
+            at,
+            fresh: copy_known(self.next_version(caller), &at),
+            entry: None,
+        }))
+    }
+
+    // The caller's reply to the stage that it has seen.
+    pub(crate) fn own_reply(&self, caller: u32, kind: ReplyKind) -> Reply
+        requires { caller < self.now.shape.callers }
+        ensures { result ≡ own_reply (own_part self.now caller) kind }
+    {
+        Reply {
+            number: self.hand(caller).track().stage().number,
+            kind,
         }
     }
 
@@ -287,7 +290,8 @@ impl Machine {
             (own_part self.now caller) }
         requires may { MayTake (IsThere (store_of self.now.history)) (λ e. Unit {0})
             (HoldsClean self.now.words (own_part self.now caller))
-            (IsLaterThan self.now.shape (core_of self.now).heap) (own_part self.now caller) act.now }
+            (IsLaterThan self.now.shape (core_of self.now).heap) (own_part self.now caller)
+            act.now }
         ensures value { result ≡ moved_word (own_part self.now caller) act.now }
         ensures below { result < length self.now.words }
     {

@@ -13,6 +13,7 @@ use crate::chronicle::Chronicle;
 use crate::cuts::{becomes, entry, publishes};
 use crate::hand::Hand;
 use crate::machine::{Machine, Row};
+use crate::rows::{end, ends_cycle, free};
 use crate::seat::Seat;
 use hm_model::Entry;
 use hm_moves::{Act, Known, Move};
@@ -23,7 +24,7 @@ impl Machine {
     ghost use Rattle.hm_moves.specs.Good.{applied};
     ghost use Rattle.hm_moves.specs.Allowed.{IsLawfulMove};
     ghost use Rattle.hm_moves.specs.Acts.{word_of};
-    ghost use Rattle.hm_core.specs.Stepping.{IsAwake, IsWork};
+    ghost use Rattle.hm_core.specs.Stepping.{IsAwake};
     ghost use Rattle.hm_core.specs.Running.{any_store, any_entry, core_of, own_part, own_view, site_of};
     ghost use Rattle.hm_core.specs.Taking.{split_off, joined_to};
 
@@ -33,7 +34,6 @@ impl Machine {
             (own_part self.old caller) }
         requires may { IsLawfulMove any_store any_entry (core_of self.old).heap
             (own_part self.old caller) m.now }
-        requires work { IsWork m.now.act }
         ensures taken { OnOk result (core_of self.new ≡ applied (core_of self.old) caller 0
             (own_view self.old caller) (own_part self.old caller) m.now) }
         ensures word { IfOk result (λ x. x
@@ -46,6 +46,7 @@ impl Machine {
         let x = self.words[at];
         let found = self.finds(&m.act, x);
         let fresh = publishes(&m.act, x);
+        let ends = ends_cycle(&m.act, x);
         let row = self.row_of(caller) as usize;
         let seat = &mut self.seats[caller as usize];
         let hand = &mut self.hands[caller as usize];
@@ -57,6 +58,21 @@ impl Machine {
             x,
             entry(&m.act, caller, x),
         )?;
+        free(
+            &mut self.rows,
+            self.shape,
+            caller,
+            &self.hands[caller as usize],
+            &m.act,
+        );
+        end(
+            &mut self.rows,
+            &mut self.known,
+            self.shape,
+            self.hands.as_slice(),
+            ends,
+        );
+        self.done += u32::from(ends);
         self.words[at] = becomes(&m.act, x);
         self.hands[caller as usize].follow(self.shape, caller, m, x, found);
         publish(&mut self.known, &mut self.rows[row], fresh);
@@ -163,8 +179,8 @@ fn make(chronicle: &mut Chronicle, seat: &mut Seat, entry: Option<Entry>) -> Res
 // A version is known, if one is published, and counts in its row.
 fn publish(known: &mut Vec<Option<Known>>, row: &mut Row, fresh: Option<Known>)
     requires below { IfSome fresh (λ k. k.version.0 < length known.old.items) }
-    requires used { row.old.used + 1 < 2 ^ 32 }
-    requires made { row.old.made + 1 < 2 ^ 64 }
+    requires used { IfSome fresh (λ k. row.old.used + 1 < 2 ^ 32) }
+    requires made { IfSome fresh (λ k. row.old.made + 1 < 2 ^ 64) }
     ensures known { known.new.items ≡ known_with known.old.items fresh }
     ensures row { row.new ≡ row_with row.old fresh }
 {

@@ -2,7 +2,7 @@
 ghost use Rattle.std.specs.Prelude.{◌≡◌, ◌≢◌, ◌+◌, ◌<◌, ◌↔◌, ℕ, Bool, Some, None, IsTrue, IfSome, slice_index, slice_index_or};
 ghost use Rattle.hm_shape.specs.Layout.{first_number, first_reference};
 ghost use Rattle.hm_model.specs.declared.object.Contents.{Contents};
-ghost use Rattle.hm_core.specs.declared.step.StepKind.TheVariants.{LoadLink, Publish, LinkStore};
+ghost use Rattle.hm_core.specs.declared.step.StepKind.TheVariants.{LoadLink, Publish, LinkStore, LinkCopy};
 ghost use Rattle.hm_model.specs.declared.entry.Tried.TheVariants.{Changed};
 
 use crate::contents::{new_contents, with_all, with_field};
@@ -223,6 +223,27 @@ impl Machine {
         }
     }
 
+    // Whether a caller's next version is written as a copy of a version, to come behind it.
+    fn copies(&self, caller: u32, v: Version) -> bool
+        requires caller { caller < self.now.shape.callers }
+        requires awake { IsAwake (core_of self.now) caller (own_view self.now caller)
+            (own_part self.now caller) }
+        requires look { IsLookable (own_part self.now caller) v }
+        requires room { HasRoom (own_part self.now caller) }
+        ensures { IsTrue result
+            ↔ Fits (core_of self.now) (own_part self.now caller) (LinkCopy v) }
+    {
+        match self.known(v) {
+            Some(at) => {
+                if self.written(caller, LINK) != Some(0) {
+                    return false;
+                }
+                self.is_built(caller, &at.contents)
+            }
+            None => false,
+        }
+    }
+
     // What an entry of the caller's own turns the contents of a version into, where it stands there.
     fn turned(&self, caller: u32, at: &Known, entry: &Entry) -> Option<Contents>
         requires caller { caller < self.now.shape.callers }
@@ -294,6 +315,7 @@ impl Machine {
             StepKind::LoadLink { v, entry, .. } => self.wants(caller, v, entry),
             StepKind::Publish { entry } => self.creates(caller, &entry),
             StepKind::LinkStore { v, entry } => self.hangs(caller, v, &entry),
+            StepKind::LinkCopy { v } => self.copies(caller, v),
             StepKind::LoadField { .. } | StepKind::StoreOwn { .. } => self.is_plain(caller, kind),
             _ => true,
         }

@@ -1,29 +1,20 @@
-//! What the machine keeps of a caller: its draft, the versions that it may look into, and its cycle.
-ghost use Rattle.std.specs.Prelude.{◌≡◌, ℕ, ◌++◌, [], nat_le, is_some, Option, ◌≤◌, ◌<◌, ◌↔◌, ◌+◌, ◌*◌, ◌^◌, ◌==◌, ◌&&◌, not, Some, None, IfOk, IfSome, IsTrue, OnErr, OnOk, Contains, length, slice_get, slice_set, slice_index_or};
-ghost use Rattle.std.specs.List.{list_all, list_any};
+//! What the machine keeps of a caller: its draft, the versions that it may use, and its cycle.
+ghost use Rattle.std.specs.Prelude.{◌≡◌, ℕ, ◌++◌, [], ◌≤◌, ◌<◌, ◌↔◌, ◌+◌, ◌^◌, None, IfOk, IfSome, IsTrue, OnErr, OnOk, length, slice_index_or};
 ghost use Rattle.hm_shape.specs.Layout.{version_words};
-ghost use Rattle.hm_shape.specs.Words.{naming_word};
-ghost use Rattle.hm_model.specs.Store.{is_same};
-ghost use Rattle.hm_moves.specs.declared.part.Known.{Known};
-ghost use Rattle.hm_moves.specs.After.{is_naming, unless_named, unnamed};
-ghost use Rattle.hm_shape.specs.Versions.{owner_of, region_of};
-ghost use Rattle.hm_moves.specs.Acts.{listed, looked_at, looked_word};
-ghost use Rattle.hm_moves.specs.Cycles.{field_count, field_word as word_of_field, found_end, gives_from};
 
-use crate::cuts::{publishes, word_looked_at};
+use crate::cuts::{end_found, publishes};
+use crate::names::{has_version, names_one, spells_one, unname};
+use crate::scanning::knows_any_from;
 use crate::track::Track;
 use hm_model::Name;
-use hm_moves::{Act, Build, End, Known, Look, Move, Shift};
-use hm_shape::{FIRST_NUMBER, FIRST_REFERENCE, LINK, Shape, VERSION_WORDS, Version};
+use hm_moves::{Act, Build, Known, Move, Shift};
+use hm_shape::{Shape, Version};
 use std::alloc::{AllocError, Global};
 use std::marker::Model;
 use std::mem;
 
 /// The most versions that a caller holds when it takes one more.
 pub(crate) const MOST_HELD: u64 = 512;
-
-/// How many words of a version name others: its link and its references.
-const FIELDS: u64 = 5;
 
 /// A caller's draft, the versions that it holds, published, and left behind, and what it knows of the cycle. There is
 /// room for as many own ones, and for as many left behind, as its regions have places.
@@ -55,12 +46,11 @@ impl Model for Hand {
 
 impl Hand {
     ghost use Rattle.hm_core.specs.Hands.{HandState, HasVersion, CanHold, CanPublish, CanReady, CanWork, CanFollow, IsLookWord, IsOwnWord, fresh_hand, ending, hand_after, hand_bared, hand_letting, hand_noted, hand_readied, hand_worked, holding, listing, part_by, redrafting, writing, publishing};
-    ghost use Rattle.hm_moves.specs.declared.moving.Act.TheVariants.{Builds, Shifts};
-    ghost use Rattle.hm_moves.specs.declared.moving.Move.{Move};
+    ghost use Rattle.hm_moves.specs.declared.moving.Act.TheVariants.{Shifts};
     ghost use Rattle.hm_moves.specs.Shifts.{left_after};
-    ghost use Rattle.hm_moves.specs.Allowed.{IsWordOf, Names, Spells};
-    ghost use Rattle.hm_moves.specs.After.{with_held, without, written_with};
-    ghost use Rattle.hm_moves.specs.Cycles.{holds_from as part_holds_from, is_at_cursor as cursor_at, is_scan as part_scans, known_from, meets as part_meets, passes as part_passes};
+    ghost use Rattle.hm_moves.specs.Allowed.{Names, Spells};
+    ghost use Rattle.hm_moves.specs.After.{unnamed, with_held, without, written_with};
+    ghost use Rattle.hm_moves.specs.Cycles.{found_end, holds_from as part_holds_from};
 
     /// A hand that holds one version and has published these, with no word written.
     pub fn new(
@@ -162,13 +152,6 @@ impl Hand {
         ensures { result.now ≡ self.now.cycle }
     {
         &self.track
-    }
-
-    /// Whether it knows a version as from-space.
-    pub fn knows_from(&self, shape: Shape, v: Version) -> bool
-        ensures { (q : ℕ) → result ≡ known_from (part_by shape q self.now) v }
-    {
-        knows_from(&self.track, shape, v)
     }
 
     /// Whether it holds a version that it knows as from-space.
@@ -289,82 +272,6 @@ impl Hand {
         self.track.note(marks, passes);
     }
 
-    // Whether what is found is known as from-space.
-    fn meets(&self, shape: Shape, found: Option<Known>) -> bool
-        ensures { result ≡ part_meets (part_by shape 0 self.now) found }
-    {
-        match found {
-            Some(known) => knows_from(&self.track, shape, known.version),
-            None => false,
-        }
-    }
-
-    // Whether a move is a load of a scan.
-    fn is_scan(&self, m: &Move) -> bool
-        ensures { (s : Shape) → result ≡ part_scans (part_by s 0 self.now) m.now m.now.act }
-    {
-        match m.act {
-            Act::Looks(_) => m.scan && self.track.is_scanning(),
-            _ => false,
-        }
-    }
-
-    // Whether a move passes the word at the cursor.
-    fn passes(&self, shape: Shape, m: &Move, found: Option<Known>) -> bool
-        requires { IsLookWord m.now.act }
-        ensures { result ≡ part_passes (part_by shape 0 self.now) m.now found m.now.act }
-    {
-        match m.act {
-            Act::Looks(look) => self.is_scan(m) && self.goes_on(shape, &look, found),
-            Act::Builds(build) => self.shortens(&build),
-            Act::Ticks(_) | Act::Shifts(_) => false,
-        }
-    }
-
-    // Whether a step that builds shortens the word at the cursor.
-    fn shortens(&self, build: &Build) -> bool
-        ensures { (s : Shape) (m : Move) (found : Option Known)
-            → result ≡ part_passes (part_by s 0 self.now) m found (Builds build.now) }
-    {
-        match *build {
-            Build::Shorten { at, i, .. } => self.has_masks() && self.is_at_cursor(at.version, i),
-            _ => false,
-        }
-    }
-
-    // Whether a load of a scan is at the cursor, and finds nothing of from-space.
-    fn goes_on(&self, shape: Shape, look: &Look, found: Option<Known>) -> bool
-        requires { IsWordOf look.now }
-        ensures { result ≡ (list_all is_some self.now.cycle.scan.masks
-            && cursor_at (part_by shape 0 self.now) (looked_at look.now) (looked_word look.now)
-            && not (part_meets (part_by shape 0 self.now) found)) }
-    {
-        if !self.has_masks() {
-            return false;
-        }
-        let (version, i) = word_looked_at(look);
-        self.is_at_cursor(version, u64::from(i)) && !self.meets(shape, found)
-    }
-
-    // Whether the caller has a mask of every caller.
-    fn has_masks(&self) -> bool
-        ensures { result ≡ list_all is_some self.now.cycle.scan.masks }
-    {
-        self.track.has_masks()
-    }
-
-    // Whether the cursor is at a word of a version.
-    fn is_at_cursor(&self, v: Version, i: u64) -> bool
-        ensures { (s : Shape) (q : ℕ) (at : Known) → at.version ≡ v
-            → result ≡ cursor_at (part_by s q self.now) at i }
-    {
-        let cursor = self.track.cursor();
-        match self.own.get((cursor / FIELDS) as usize) {
-            Some(known) => known.version.0 == v.0 && i == field_word(cursor % FIELDS),
-            None => false,
-        }
-    }
-
     // What is found, published and let go.
     fn work(&mut self, m: &Move, x: u64, found: Option<Known>)
         requires { CanWork self.old m.now x found }
@@ -386,14 +293,6 @@ impl Hand {
         let clean = !self.holds_from(shape);
         let bare = clean && (self.has_passed() || self.track.is_bare());
         self.track.set_bare(bare);
-    }
-
-    // Whether the caller has all masks, and its scan has passed all its words.
-    fn has_passed(&self) -> bool
-        ensures { result ≡ (list_all is_some self.now.cycle.scan.masks
-            && nat_le (field_count * length self.now.hands.own) self.now.cycle.scan.cursor) }
-    {
-        self.has_masks() && self.own.len() as u64 <= self.track.cursor() / FIELDS
     }
 
     // A version that is let go leaves the held ones.
@@ -448,98 +347,4 @@ impl Hand {
             unname(&mut self.written, &known);
         }
     }
-}
-
-// Whether a caller knows a version as from-space.
-fn knows_from(track: &Track, shape: Shape, v: Version) -> bool
-    ensures { result ≡ gives_from (slice_index_or track.now.scan.masks (owner_of shape v) None) (region_of shape v) }
-{
-    let owner = v.0 / (shape.regions * shape.versions);
-    let region = v.0 / shape.versions % shape.regions;
-    track.gives_from(owner, region)
-}
-
-// Whether it knows one of some versions so.
-fn knows_any_from(track: &Track, shape: Shape, list: &[Known]) -> bool
-    ensures { result ≡ list_any (λ k. gives_from
-        (slice_index_or track.now.scan.masks (owner_of shape k.version) None)
-        (region_of shape k.version)) list.now }
-{
-    list.iter()
-        .any(|known| knows_from(track, shape, known.version))
-}
-
-// The end of a chain that an act finds: of a load of a link that finds 0.
-fn end_found(act: &Act, found: u64) -> Option<End>
-    ensures { listed result ≡ found_end act.now found }
-{
-    match *act {
-        Act::Looks(Look::LoadLink { at, .. }) if found == 0 => Some(End {
-            name: at.name,
-            rank: at.rank,
-        }),
-        _ => None,
-    }
-}
-
-// The word of a version that is its field of this number: its link, or a reference.
-fn field_word(field: u64) -> u64
-    requires { field < 5 }
-    ensures { result ≡ word_of_field field }
-{
-    if field == 0 {
-        u64::from(LINK)
-    } else {
-        field + 1
-    }
-}
-
-// Whether one of some versions has this number.
-fn has_version(list: &[Known], v: Version) -> bool
-    ensures { result ≡ list_any (λ k. k.version.0 == v.0) list.now }
-{
-    list.iter().any(|known| known.version.0 == v.0)
-}
-
-// Whether a word names one of some versions.
-fn names_one(list: &[Known], word: u64) -> bool
-    ensures { result ≡ list_any (λ k. naming_word (Some k.version) == word) list.now }
-{
-    list.iter().any(|known| known.version.name() == word)
-}
-
-// Whether a word names one of some versions, of this name.
-fn spells_one(list: &[Known], word: u64, name: Name) -> bool
-    ensures { result
-        ≡ list_any (λ k. (naming_word (Some k.version) == word) && is_same k.name name) list.now }
-{
-    list.iter()
-        .any(|known| known.version.name() == word && known.name == name)
-}
-
-// No word that names the version counts as written.
-fn unname(written: &mut [Option<u64>; 16], known: &Known)
-    ensures { written.new ≡ unnamed (Some known.now) written.old }
-{
-    for i in 0..VERSION_WORDS {
-        written[i as usize] = unless_names(i, written[i as usize], known);
-    }
-}
-
-// Word `i`, where it is written and does not name the version.
-fn unless_names(i: u32, word: Option<u64>, known: &Known) -> Option<u64>
-    ensures { result ≡ unless_named known.now i word }
-{
-    if names_a_version(i) && word == Some(known.version.name()) {
-        None
-    } else {
-        word
-    }
-}
-
-// Whether word `i` of a version names a version.
-pub(crate) fn names_a_version(i: u32) -> bool
-    ensures { result ≡ is_naming i }
-{
-    i == LINK || (FIRST_REFERENCE..FIRST_NUMBER).contains(&i)
 }

@@ -2,7 +2,7 @@
 ghost use Rattle.std.specs.Prelude.{◌≡◌};
 
 use hm_model::Entry;
-use hm_shape::Version;
+use hm_shape::{ReplyKind, Roles, Stage, Version};
 
 /// What a step does. A version is given by its number.
 #[derive(Clone, Copy, Debug, PartialEq, Eq)]
@@ -41,6 +41,40 @@ pub enum StepKind {
     /// The caller's seat is joined with another, and has then seen the longer of the two histories.
     Meet {
         other: Other,
+    },
+    /// A load of the stage.
+    LoadStage,
+    /// An exchange of the stage from the one that the caller has seen to this one.
+    MoveStage {
+        to: Stage,
+    },
+    /// A load of the reply of caller `p`.
+    LoadReply {
+        p: u32,
+    },
+    /// A store of the caller's reply to the stage that it has seen.
+    StoreReply {
+        kind: ReplyKind,
+    },
+    /// A load of the roles of caller `p`.
+    LoadRoles {
+        p: u32,
+    },
+    /// A store of the caller's own roles: a join, a turn, or a reuse.
+    StoreRoles {
+        roles: Roles,
+    },
+    /// An exchange of the link of a version of from-space, from 0 to the caller's next version, which is then published
+    /// as a copy of it.
+    LinkCopy {
+        v: Version,
+    },
+    /// A store in word `i` of a version of the caller's own, in To or Old: 0 for its link, 2 to 5 for its references. The
+    /// word then names `u`, a later version of the object that it names.
+    Shorten {
+        v: Version,
+        i: u32,
+        u: Version,
     },
 }
 
@@ -91,6 +125,15 @@ pub enum StepRefused {
     Words,
     /// The written words or the answer do not fit the entry, or the version that the step looks into.
     Change,
+    /// The stage may not be moved so, by the replies that the caller has loaded since it saw the stage.
+    Stage,
+    /// The caller may not reply so to the stage that it has seen.
+    Reply,
+    /// The roles are those of no join, turn or reuse that the caller may make.
+    Roles,
+    /// The version is not a later one of the object that the word names, or is of from-space; or the version that is to
+    /// be copied is not known as from-space.
+    Later,
     /// There was no memory.
     Memory,
 }

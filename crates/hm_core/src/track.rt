@@ -38,7 +38,12 @@ impl Model for Track {
     ghost Value = { Cycle };
 
     ghost view = { λ t. record {
-      clock = record { stage = t.stage; reply = t.reply; replies = t.replies.items; moves = t.moves };
+      clock = record {
+        stage = t.stage;
+        reply = t.reply;
+        replies = t.replies.items;
+        moves = t.moves;
+      };
       ties = record { roles = t.roles; joined = t.joined; join = t.join; done = t.done };
       scan = record {
         masks = t.masks.items;

@@ -4,7 +4,8 @@ use Rattle.hm_core.proofs.Words.{fresh_hand, replicate_more}
 use Rattle.hm_core.proofs.starting.starting_hands.Goals as goal
 
 pub loop-init : goal.loop-init
-loop-init c = c.in_ok-push.ensures.items ∙ (λ i. c.new-hands.ensures.items i ++ c.in_ok-new.ensures i ∷ [])
+loop-init c = c.in_ok-push.ensures.items
+    ∙ (λ i. c.new-hands.ensures.items i ++ c.in_ok-new.ensures i ∷ [])
 
 pub loop-preserved : goal.loop-preserved
 loop-preserved c =

@@ -9,13 +9,15 @@ pub returns : goal.returns
 returns c =
     let after : List Known = c.add_side-4.new.firsts.items in
     let four : length c.args.start.sides ≡ 4 = search rules in
-    let names : Refs = c.in_ok-add_side.field-0 ∷ c.in_ok-add_side-2.field-0 ∷ c.in_ok-add_side-3.field-0
+    let names : Refs =
+    c.in_ok-add_side.field-0 ∷ c.in_ok-add_side-2.field-0 ∷ c.in_ok-add_side-3.field-0
     ∷ c.in_ok-add_side-4.field-0 ∷ [] in
     let sides : AreAdded [] c.args.start.sides names after =
     rw (four_sides c.args.start.sides four)
-    (one_added [] _ _ _ _ _ after (rw c.in_ok-firsts.ensures.items at c.in_ok-add_side.ensures.added)
+    (one_added [] _ _ _ _ _ after
+    (rw c.in_ok-firsts.ensures.items at c.in_ok-add_side.ensures.added)
     (one_added _ _ _ _ _ _ after c.in_ok-add_side-2.ensures.added
     (one_added _ _ _ _ _ _ after c.in_ok-add_side-3.ensures.added
     (one_added _ _ _ _ _ _ after c.in_ok-add_side-4.ensures.added (none_added after))))) in
-    all_added c.args.start names after c.push.new.self.items c.starting_version-common.result c.len.result sides
-    (search rules) (search rules) c.in_ok-push.ensures.items
+    all_added c.args.start names after c.push.new.self.items c.starting_version-common.result
+    c.len.result sides (search rules) (search rules) c.in_ok-push.ensures.items

@@ -16,4 +16,5 @@ change-requires-in-StoreIf-default-default-default-default-default-Stored-clause
     let u = c.unwrap-in-StoreIf-default-default-default-default-default-Stored in
     let held = sym c.contents-in-StoreIf-default-default-default-default-default-Stored.ensures
     ∙ ap option_copied u.ensures in
-    store_if_effect _ _ _ _ _ _ _ _ u.result.now _ d.is (rw d.is at d.answer-is) held c.with_all-now.ensures
+    store_if_effect _ _ _ _ _ _ _ _ u.result.now _ d.is (rw d.is at d.answer-is) held
+    c.with_all-now.ensures

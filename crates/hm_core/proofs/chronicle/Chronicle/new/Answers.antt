@@ -6,7 +6,8 @@ use Rattle.hm_core.proofs.chronicle.Chronicle.new.Goals as goal
 
 pub invariant_of-result : goal.invariant_of-result
 invariant_of-result c =
-    rw (c.new-2.ensures.items, c.new-3.ensures.items, c.loop.invariant) (chronicle_empty c.loop.counter)
+    rw (c.new-2.ensures.items, c.new-3.ensures.items, c.loop.invariant)
+    (chronicle_empty c.loop.counter)
 
 pub returns : goal.returns
 returns c =

@@ -10,9 +10,12 @@ use Rattle.hm_core.proofs.hand.Hand.shift.Goals as goal
 pub returns-in-Join : goal.returns-in-Join
 returns-in-Join c s =
     let roles = c.in-Join.roles in
-    let before : the_view c.self-in-Join.inside ≡ redrafting c.leave_behind.new.self c.in-Join.region =
+    let before : the_view c.self-in-Join.inside ≡ redrafting c.leave_behind.new.self
+    c.in-Join.region =
     c.self-in-Join.view_is ∙ c.redraft.ensures in
     ap (λ (t : Cycle). tracking (the_view c.self-in-Join.inside) t) c.join_with.ensures
     ∙ (ap (λ (h : HandState). tracking h (cycle_joined h.cycle roles))
-    (before ∙ ap (λ (h : HandState). redrafting h c.in-Join.region) (c.leave_behind.ensures s c.args.caller))
-    ∙ ap (λ (f : Shift). hand_readied s c.args.caller c.args.self.now (Shifts f) c.args.x) (sym c.in-Join.is))
+    (before ∙ ap (λ (h : HandState). redrafting h c.in-Join.region)
+    (c.leave_behind.ensures s c.args.caller))
+    ∙ ap (λ (f : Shift). hand_readied s c.args.caller c.args.self.now (Shifts f) c.args.x)
+    (sym c.in-Join.is))

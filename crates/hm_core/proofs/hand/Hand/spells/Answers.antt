@@ -10,5 +10,6 @@ returns-in-Some c =
     let is : c.spells_one.result
     ≡ list_any (λ k. (naming_word (Some k.version) == c.args.word) && is_same k.name name) held =
     search rules in
-    subst (λ (o : Option Name). IsTrue c.spells_one.result ↔ Spells held c.args.word o) (sym c.in-Some.is)
+    subst (λ (o : Option Name). IsTrue c.spells_one.result ↔ Spells held c.args.word o)
+    (sym c.in-Some.is)
     (tested (Spells held c.args.word (Some name)) _ _ is (spells_iff c.args.word name held))

@@ -8,5 +8,7 @@ take_in-requires c = can_still c.args.self.now _ c.args.m.now.let_go c.args.foun
 
 pub take_in-requires-2 : goal.take_in-requires-2
 take_in-requires-2 c =
-    can_also c.args.self.now _ _ c.args.m.now.let_go c.args.found c.publishes-fresh.result c.leave.ensures
-    c.take_in.ensures (rw c.publishes-fresh.ensures c.requires.one) (rw c.publishes-fresh.ensures c.requires.fresh)
+    can_also c.args.self.now _ _ c.args.m.now.let_go c.args.found c.publishes-fresh.result
+    c.leave.ensures
+    c.take_in.ensures (rw c.publishes-fresh.ensures c.requires.one)
+    (rw c.publishes-fresh.ensures c.requires.fresh)

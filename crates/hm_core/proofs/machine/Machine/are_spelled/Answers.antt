@@ -6,8 +6,8 @@ pub loop-i-preserved : goal.loop-i-preserved
 loop-i-preserved c =
     let p = own_part c.args.self.now c.args.caller in
     let t = c.spells.ensures.0 c.if-not-spells.false in
-    below_more (λ (k : ℕ). (w : ℕ) × IsWritten p.draft.written (first_reference + k) w × Spells p.hands.held w
-    (get_or c.args.refs.now k None))
+    below_more (λ (k : ℕ). (w : ℕ) × IsWritten p.draft.written (first_reference + k) w
+    × Spells p.hands.held w (get_or c.args.refs.now k None))
     c.loop-i.i c.loop-i.invariant (t.0, sym c.written-word.ensures ∙ t.1, t.2)
 
 pub returns-then-not-spells : goal.returns-then-not-spells

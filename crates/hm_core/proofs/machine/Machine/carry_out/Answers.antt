@@ -9,8 +9,8 @@ split-requires c = record { awake = (c.requires.admitted refused.Caller (omega a
 
 pub seat_of-seat-requires : goal.seat_of-seat-requires
 seat_of-seat-requires c =
-    (step_meets c.args.self.now c.let_go_of-let_go-in-Meet.ensures.sound c.args.s.now c.in-Meet.other
-    c.in-Meet.is c.requires.admitted).1
+    (step_meets c.args.self.now c.let_go_of-let_go-in-Meet.ensures.sound c.args.s.now
+    c.in-Meet.other c.in-Meet.is c.requires.admitted).1
 
 pub meet-requires : goal.meet-requires
 meet-requires c =

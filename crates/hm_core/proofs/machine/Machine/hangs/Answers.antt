@@ -12,12 +12,14 @@ returns-else-ne c =
     let Built : Contents → Type 0 = λ x. IsBuilt p.hands.held p.draft.written x in (
       λ h. link_fits m c.args.caller c.in-Some.ensures.sound c.requires.awake c.args.v c.in-Some.at
           c.args.entry.now c.in-Some-turned.contents
-          (sym c.in-Some.ensures.known) c.requires.look c.requires.room c.in-Some-turned.ensures.turned
+          (sym c.in-Some.ensures.known) c.requires.look c.requires.room
+          c.in-Some-turned.ensures.turned
           (sym c.written.ensures ∙ link) (c.is_built.ensures.built.0 h),
       λ f.
           let t = fits_link m c.args.caller c.args.v c.in-Some.at
           c.args.entry.now (sym c.in-Some.ensures.known) f in
-          let same : c.in-Some-turned.contents ≡ t.0 = let both = c.in-Some-turned.ensures.only t.0 t.1 in cc in
+          let same : c.in-Some-turned.contents ≡ t.0 =
+          let both = c.in-Some-turned.ensures.only t.0 t.1 in cc in
           c.is_built.ensures.built.1 (subst Built (sym same) t.3),
     )
 

@@ -9,8 +9,8 @@ returns-then-is_of c =
     let first = c.is_of.ensures.0 c.if-is_of.true in (
       λ t.
           let one : length c.parts.result.now ≡ 1 = eqb-true (length c.parts.result.now) 1 t in
-          seated_alone m c.in-Some.ensures.sound c.args.caller c.in-Some.seat.now c.in-Some.ensures.seat first
-          (ap length (sym c.parts.ensures) ∙ one),
+          seated_alone m c.in-Some.ensures.sound c.args.caller c.in-Some.seat.now
+          c.in-Some.ensures.seat first (ap length (sym c.parts.ensures) ∙ one),
       λ h.
           let u = alone_seated m c.in-Some.ensures.sound c.args.caller c.in-Some.seat.now
           c.in-Some.ensures.seat h.1 in

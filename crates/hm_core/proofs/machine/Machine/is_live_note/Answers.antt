@@ -1,6 +1,6 @@
 use Rattle.std.proofs.Common.{◌≡◌, ◌+◌, ℕ, Some, None, sym, ap, ◌∙◌, arith}
 use Rattle.std.specs.Prelude.{slice_get}
-use Rattle.hm_core.proofs.Words.{slice_get_past, nat_tests}
+use Rattle.hm_core.proofs.Words.{slice_get_past}
 use Rattle.hm_core.proofs.Seating.{note_iff, none_note, positive}
 use Rattle.hm_core.proofs.machine.Machine.is_live_note.Goals as goal
 

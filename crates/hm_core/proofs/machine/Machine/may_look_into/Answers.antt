@@ -7,6 +7,9 @@ use Rattle.hm_core.proofs.machine.Machine.may_look_into.Goals as goal
 pub returns-else-holds : goal.returns-else-holds
 returns-else-holds c =
     let hand = c.hand-hand.ensures.hand in
-    look_owns (own_part c.args.self.now c.args.caller) c.args.v c.holds.result c.owns.result c.if-holds.false
-    (subst (λ (h : HandState). IsTrue c.holds.result ↔ HasVersion h.hands.held c.args.v) hand c.holds.ensures)
-    (subst (λ (h : HandState). IsTrue c.owns.result ↔ HasVersion h.hands.own c.args.v) hand c.owns.ensures)
+    look_owns (own_part c.args.self.now c.args.caller) c.args.v c.holds.result c.owns.result
+    c.if-holds.false
+    (subst (λ (h : HandState). IsTrue c.holds.result ↔ HasVersion h.hands.held c.args.v) hand
+    c.holds.ensures)
+    (subst (λ (h : HandState). IsTrue c.owns.result ↔ HasVersion h.hands.own c.args.v) hand
+    c.owns.ensures)

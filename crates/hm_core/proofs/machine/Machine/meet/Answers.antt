@@ -15,12 +15,15 @@ pub invariant_of-self-2 : goal.invariant_of-self-2
 invariant_of-self-2 c =
     let m = c.args.self.now in
     let sound : IsSound m = subst IsSound c.self.view_is c.self.invariant.sound in
-    let is = met_is _ m c.self.view_is sound c.args.caller c.requires.awake c.args.let_go c.args.other
-    c.requires.there c.index_mut-3.ensures.value (c.release.ensures c.args.caller) c.index_mut.ensures.value c.index-2.ensures
+    let is = met_is _ m c.self.view_is sound c.args.caller c.requires.awake
+    c.args.let_go c.args.other
+    c.requires.there c.index_mut-3.ensures.value (c.release.ensures c.args.caller)
+    c.index_mut.ensures.value c.index-2.ensures
     c.index.ensures c.seen-seen.ensures (c.as_slice.ensures.value ∙ c.in_ok-parts.ensures)
     c.in_ok-carry.ensures.carried c.spend.ensures in
     record {
-      sound = subst IsSound (sym is) (sound_met m c.args.caller c.args.let_go sound c.requires.awake c.args.other
+      sound = subst IsSound (sym is)
+          (sound_met m c.args.caller c.args.let_go sound c.requires.awake c.args.other
           c.requires.other c.requires.there);
       makers = c.self.invariant.makers;
     }
@@ -29,8 +32,10 @@ pub returns-clause-joined : goal.returns-clause-joined
 returns-clause-joined c =
     let m = c.args.self.now in
     let sound : IsSound m = subst IsSound c.self.view_is c.self.invariant.sound in
-    let is = met_is _ m c.self.view_is sound c.args.caller c.requires.awake c.args.let_go c.args.other
-    c.requires.there c.index_mut-3.ensures.value (c.release.ensures c.args.caller) c.index_mut.ensures.value c.index-2.ensures
+    let is = met_is _ m c.self.view_is sound c.args.caller c.requires.awake
+    c.args.let_go c.args.other
+    c.requires.there c.index_mut-3.ensures.value (c.release.ensures c.args.caller)
+    c.index_mut.ensures.value c.index-2.ensures
     c.index.ensures c.seen-seen.ensures (c.as_slice.ensures.value ∙ c.in_ok-parts.ensures)
     c.in_ok-carry.ensures.carried c.spend.ensures in
     ap core_of is

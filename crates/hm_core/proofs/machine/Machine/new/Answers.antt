@@ -17,7 +17,8 @@ pub starting_chronicle-requires-clause-stand : goal.starting_chronicle-requires-
 starting_chronicle-requires-clause-stand c =
     let firsts : c.as_slice-firsts.result.now ≡ all_known c.args.start =
     c.as_slice-firsts.ensures.value ∙ c.in_ok-versions.ensures in
-    subst (λ (l : List Entry). AllStand [] l) (sym (ap creates_of firsts ∙ opening_created c.args.start))
+    subst (λ (l : List Entry). AllStand [] l)
+    (sym (ap creates_of firsts ∙ opening_created c.args.start))
     (opening_stands c.args.start c.in_ok-words.ensures.first.sized)
 
 pub overflow_cast-firsts : goal.overflow_cast-firsts
@@ -41,7 +42,8 @@ invariant_of-result c =
     (c.as_slice-firsts.ensures.value ∙ c.in_ok-versions.ensures) c.in_ok-known.ensures
     (ap (λ (z : ChronicleState). z.entries) c.in_ok-chronicle.ensures) refl c.in_ok-rows.ensures
     (common_last c.args.start c.as_slice-firsts.result.now _
-    (c.as_slice-firsts.ensures.value ∙ c.in_ok-versions.ensures)) c.in_ok-hands.ensures c.in_ok-seats.ensures c.count.ensures in
+    (c.as_slice-firsts.ensures.value ∙ c.in_ok-versions.ensures)) c.in_ok-hands.ensures
+    c.in_ok-seats.ensures c.count.ensures in
     record {
       sound = subst (λ (m : Moment). IsSound m) (sym is)
           (first_sound c.args.shape c.args.start _ c.in_ok-words.ensures.first c.requires);
@@ -54,7 +56,8 @@ returns-clause-fresh c =
     (c.as_slice-firsts.ensures.value ∙ c.in_ok-versions.ensures) c.in_ok-known.ensures
     (ap (λ (z : ChronicleState). z.entries) c.in_ok-chronicle.ensures) refl c.in_ok-rows.ensures
     (common_last c.args.start c.as_slice-firsts.result.now _
-    (c.as_slice-firsts.ensures.value ∙ c.in_ok-versions.ensures)) c.in_ok-hands.ensures c.in_ok-seats.ensures c.count.ensures in
+    (c.as_slice-firsts.ensures.value ∙ c.in_ok-versions.ensures)) c.in_ok-hands.ensures
+    c.in_ok-seats.ensures c.count.ensures in
     subst IsFreshMachine (sym is) record {
       core = first_fresh c.args.shape c.args.start _ c.in_ok-words.ensures.first c.requires;
       seats = refl;

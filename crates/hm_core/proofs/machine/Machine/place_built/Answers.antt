@@ -14,7 +14,8 @@ returns-in-LinkStore-clause-version c =
     (HoldsClean m.words (own_part m c.args.caller)) (IsLaterThan m.shape (core_of m).heap)
     (own_part m c.args.caller) b) c.in-LinkStore.is c.requires.may in
     let at = c.in-LinkStore.at in
-    (known_fit m sound at.version.0 at (look_index m sound c.args.caller c.requires.awake at may.look)).version
+    (known_fit m sound at.version.0 at
+    (look_index m sound c.args.caller c.requires.awake at may.look)).version
 
 pub returns-in-Shorten-clause-version : goal.returns-in-Shorten-clause-version
 returns-in-Shorten-clause-version c =
@@ -24,7 +25,8 @@ returns-in-Shorten-clause-version c =
     (HoldsClean m.words (own_part m c.args.caller)) (IsLaterThan m.shape (core_of m).heap)
     (own_part m c.args.caller) b) c.in-Shorten.is c.requires.may in
     let at = c.in-Shorten.at in
-    (known_fit m sound at.version.0 at (look_index m sound c.args.caller c.requires.awake at (inr may.own))).version
+    (known_fit m sound at.version.0 at
+    (look_index m sound c.args.caller c.requires.awake at (inr may.own))).version
 
 pub returns-in-Shorten-clause-word : goal.returns-in-Shorten-clause-word
 returns-in-Shorten-clause-word c =

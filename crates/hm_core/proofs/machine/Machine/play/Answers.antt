@@ -10,7 +10,8 @@ loop-step-init c = record { played = refl; led = here; site = refl }
 pub loop-step-preserved : goal.loop-step-preserved
 loop-step-preserved c = record {
   played = plays_more c.args.self.now c.loop-step.self c.answer.new.self c.args.steps.now
-      c.loop-step.step-index _ (omega arith) c.loop-step.invariant.played c.in_ok-answer.ensures.answered;
+      c.loop-step.step-index c.step-item.result (omega arith) c.step-item.is
+      c.loop-step.invariant.played c.in_ok-answer.ensures.answered;
   led = leads_on (core_of c.args.self.now) (core_of c.loop-step.self) (core_of c.answer.new.self)
       c.loop-step.invariant.led c.answer.ensures.leads;
   site = c.answer.ensures.site ∙ c.loop-step.invariant.site;

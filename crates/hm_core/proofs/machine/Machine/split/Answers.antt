@@ -16,10 +16,11 @@ invariant_of-self-2 c =
     let m = c.args.self.now in
     let sound : IsSound m = subst IsSound c.self.view_is c.self.invariant.sound in
     let is = noted_is _ m c.self.view_is sound c.args.caller c.requires.awake c.args.let_go
-    c.index_mut.ensures.value (c.release.ensures c.args.caller) c.index.ensures c.seen-seen.ensures c.note.ensures
-    c.in_ok-push.ensures.items in
+    c.index_mut.ensures.value (c.release.ensures c.args.caller) c.index.ensures c.seen-seen.ensures
+    c.note.ensures c.in_ok-push.ensures.items in
     record {
-      sound = subst IsSound (sym is) (sound_noted m c.args.caller c.args.let_go sound c.requires.awake);
+      sound = subst IsSound (sym is)
+          (sound_noted m c.args.caller c.args.let_go sound c.requires.awake);
       makers = c.self.invariant.makers;
     }
 
@@ -28,6 +29,6 @@ returns-clause-split c =
     let m = c.args.self.now in
     let sound : IsSound m = subst IsSound c.self.view_is c.self.invariant.sound in
     let is = noted_is _ m c.self.view_is sound c.args.caller c.requires.awake c.args.let_go
-    c.index_mut.ensures.value (c.release.ensures c.args.caller) c.index.ensures c.seen-seen.ensures c.note.ensures
-    c.in_ok-push.ensures.items in
+    c.index_mut.ensures.value (c.release.ensures c.args.caller) c.index.ensures c.seen-seen.ensures
+    c.note.ensures c.in_ok-push.ensures.items in
     ap core_of is ∙ core_noted m c.args.caller c.args.let_go sound c.requires.awake

@@ -15,4 +15,5 @@ word_of-requires-clause-version c =
     let at : Known = looked_at c.in-Looks.look in
     subst (λ (z : Moment). IsVersionOf z.shape c.word_looked_at-i.result.0) (sym c.self.view_is)
     (subst (λ (v : Version). IsVersionOf m.shape v) (sym c.word_looked_at-i.ensures.version)
-    (known_fit m sound at.version.0 at (look_index m sound c.args.caller c.requires.awake at may.look)).version)
+    (known_fit m sound at.version.0 at
+    (look_index m sound c.args.caller c.requires.awake at may.look)).version)

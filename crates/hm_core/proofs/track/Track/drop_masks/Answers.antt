@@ -13,7 +13,8 @@ returns c =
     let masks = c.self.inside.masks.items in
     let many : vec_len c.self.inside.masks ≡ length masks = search rules in
     let none : c.fill.new.self.items ≡ map (λ m. None) masks =
-    c.fill.ensures.items (search rules) ∙ (ap (λ (n : ℕ). replicate n None) many ∙ sym (map_none masks)) in
+    c.fill.ensures.items (search rules)
+    ∙ (ap (λ (n : ℕ). replicate n None) many ∙ sym (map_none masks)) in
     ap (λ (l : List (Option Roles)). record v {
       scan = record v.scan { masks = l; cursor = 0; bare = false };
     }) none ∙ ap cycle_unmasked c.self.view_is

@@ -13,6 +13,7 @@ returns c =
     let replies = c.self.inside.replies.items in
     let many : vec_len c.self.inside.replies ≡ length replies = search rules in
     let none : c.fill.new.self.items ≡ map (λ r. None) replies =
-    c.fill.ensures.items (search rules) ∙ (ap (λ (n : ℕ). replicate n None) many ∙ sym (map_none replies)) in
+    c.fill.ensures.items (search rules)
+    ∙ (ap (λ (n : ℕ). replicate n None) many ∙ sym (map_none replies)) in
     ap (λ (l : List (Option Reply)). record v { clock = record v.clock { replies = l } }) none
     ∙ ap cycle_unanswered c.self.view_is

@@ -1,0 +1,10 @@
+use Rattle.std.proofs.Common.{◌≡◌, ◌<◌, ℕ, Some, None}
+use Rattle.std.specs.Prelude.{slice_index_or}
+use Rattle.hm_core.proofs.Words.{own_part}
+use Rattle.hm_core.specs.Stepping.{own_reply}
+use Rattle.hm_core.proofs.machine.Machine.have_replied.Given as goal
+
+abbrev pub invariant-loop-q : goal.invariant-loop-q
+invariant-loop-q l = (k : ℕ) → k < l.q
+    → slice_index_or (own_part l.self l.caller).cycle.clock.replies k None
+    ≡ Some (own_reply (own_part l.self l.caller) l.kind)

@@ -1,0 +1,9 @@
+use Rattle.std.proofs.Common.{rules}
+use Rattle.hm_moves.specs.Shifts.{turned_role}
+use Rattle.hm_core.proofs.RoleTests.{mapped_roles}
+use Rattle.hm_core.proofs.roles.turned_roles.Goals as goal
+
+pub returns : goal.returns
+returns c =
+    mapped_roles _ turned_role _ (λ x y q k. search rules)
+    c.args.roles.0 c.map.result _ (search rules) c.map.ensures.items
