@@ -57,7 +57,6 @@ module _ {S U : Type 0} (lawful : U → PlainStore → Type 0) (allowed : U → 
       record {
         core = c;
         good = shows.good;
-        freed = shows.freed;
         id = id;
         seat = at;
         history = whole lawful allowed g c id k.view shows.good at all;

@@ -1,6 +1,8 @@
 -- The acts that load words, and what they take into the hand.
 use Rattle.std.proofs.Common.{◌≡◌, ◌⊎◌, ◌<◌, ◌≤◌, ◌+◌, ◌-◌, ◌*◌, ◌^◌, ℕ, suc, Bool, true, false, eqb-true, Option, Some, None, IfSome, if◌then◌else◌, refl, sym, ap, ◌∙◌, arith, nat_lt, inl, inr}
 use Rattle.hm_cells.proofs.Words.{◌==◌, option_to_list, Shape, Version, version_count, word_at, naming_word, Name, Entry, Known, Part, Look, Looks, LoadStamp, LoadReference, LoadNumber, LoadLink, IsFit, word_of, field_look, HasHand, MayHold, MayLookInto, MayLook, Found, IsReference, IsLink, LookFound, taken, version_in}
+use Rattle.std.specs.Option.{option_map}
+use Rattle.hm_moves.specs.Acts.{looked_at, looked_word}
 use Rattle.std.proofs.Math.Nat.{mul-le-mul_left}
 use Rattle.std.proofs.lemmas.Nat.{mul-le}
 use Rattle.hm_moves.specs.Places.{rank_limit}
@@ -104,3 +106,26 @@ hand_field s n k i x found named some low what fit in_range none =
     ∙ ap option_to_list (sym (in_range (omega arith) (omega arith) (small_reference s n x found _ f fit))))
     (λ j small e f. ap (taken (Looks (LoadNumber k j)) x) f.1 ∙ ap option_to_list (sym (none (inr (omega arith)))))
     what
+
+-- what a load takes into the hand is what it found
+pub hand_found : (l : Look) (x : ℕ) (found : Option Known)
+    → taken (Looks l) x found ≡ option_to_list (option_map (λ k. k.version) found)
+hand_found l x None = refl
+hand_found l x (Some k) = refl
+
+-- and so it was named, where what is named is in hand
+pub one_named : (named found : Option Version) → option_to_list named ≡ option_to_list found
+    → named ≡ found
+one_named None None e = refl
+one_named None (Some v) e = absurd (cc)
+one_named (Some v) None e = absurd (cc)
+one_named (Some v) (Some w) e = cc
+
+-- a load is of this word of the version that is known
+pub field_at : (k : Known) (i : ℕ) → 0 < i → i < 16 → looked_at (field_look k i) ≡ k
+field_at k i some low = field_cases (λ l. looked_at l ≡ k) k i some low (λ e. refl)
+    (λ j small e. refl) (λ j small e. refl)
+
+pub field_word_is : (k : Known) (i : ℕ) → 0 < i → i < 16 → looked_word (field_look k i) ≡ i
+field_word_is k i some low = field_cases (λ l. looked_word l ≡ i) k i some low (λ e. sym e)
+    (λ j small e. sym e) (λ j small e. sym e)

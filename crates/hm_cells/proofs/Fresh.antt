@@ -1,8 +1,13 @@
 -- The passes of a fresh heap.
-use Rattle.std.proofs.Common.{◌≡◌, ◌≢◌, ◌⊎◌, ◌<◌, ◌≤◌, ◌+◌, ◌*◌, ℕ, zero, suc, Bool, true, false, cond, is_some, eqb, eq-eqb, ne_eqb, List, [], ◌∷◌, ◌++◌, length, get_or, replicate, set, Option, Some, None, IfSome, All, refl, sym, ap, ◌∙◌, subst, arith, ⊎_elim, length-set, length-append}
-use Rattle.hm_cells.proofs.Words.{side_count, slice_get, some, get_elem?, length-replicate, All-set, All-replicate, TableId, Me, Seat, Version, version_at, Start, Entry, PlainStore, opening_of, starting_count, IsSizedStart, Known, Site, Part, all_known}
+use Rattle.std.proofs.Common.{◌≡◌, ◌≢◌, ◌⊎◌, ◌<◌, ◌≤◌, ◌+◌, ◌*◌, ℕ, zero, suc, Bool, true, false, cond, is_some, eqb, eq-eqb, ne_eqb, List, [], ◌∷◌, ◌++◌, length, get_or, replicate, set, Option, Some, None, IfSome, All, refl, sym, ap, ◌∙◌, subst, arith, ⊎_elim, length-set, length-append, true≢false, ◌-◌}
+use Rattle.hm_cells.proofs.Words.{side_count, slice_get, get_elem?, length-replicate, All-set, All-replicate, TableId, Me, Seat, Version, version_at, Start, Entry, PlainStore, opening_of, starting_count, IsSizedStart, Known, Site, Part, all_known}
 use Rattle.hm_cells.proofs.Words.{common_known, fresh_part, Knowledge, Gripped, IsAmong, IsSound, IsSure, IsSeated, caller_in, facts_of, knowledge, first_roots, first_used, fresh_pass, newcomer, many, numbered, numbered_at}
-use Rattle.hm_cells.specs.Shows.{to_first}
+use Rattle.std.specs.List.{list_all}
+use Rattle.std.proofs.lemmas.Grind.{common_steps}
+use Rattle.std.proofs.lemmas.List.{replicate-append-replicate}
+use Rattle.hm_shape.specs.declared.roles.Roles.{Roles}
+use Rattle.hm_moves.specs.Cycles.{is_cleared}
+use Rattle.hm_cells.proofs.Words.{Facts, Own, fresh_own, own_of, padded}
 use Rattle.hm_cells.proofs.Found.{there_found}
 
 first_rooted : (start : Start) → All (λ r. IfSome r (IsAmong (common_known start ∷ []))) (first_roots start)
@@ -16,20 +21,32 @@ first_rooted start =
 pub record IsFirstGrip {U : Type 0} (start : Start) (grip : Gripped U) : Type 0 where
   pub roots : grip.roots ≡ first_roots start
   pub hand : grip.hand ≡ []
-  pub moves : grip.moves ≡ 0
+  pub scanned : grip.scanned ≡ None
   pub tends : grip.tends ≡ 0
 
 -- the grip of a fresh pass names the common object's version at its first root place alone, and counts from 0
 pub first_grip : {U : Type 0} (start : Start) (site : Site U) (made grip : Gripped U) (n : ℕ)
-    → made ≡ record { site = site; roots = replicate 256 None; hand = []; moves = 0; tends = 0 }
+    → made ≡ record { site = site; roots = replicate 256 None; hand = []; scanned = None; tends = 0 }
     → grip ≡ record made { roots = set made.roots 0 (Some (record { 0 = n })) } → n ≡ side_count start.sides
     → IsFirstGrip start grip
 first_grip {U} start site made grip n is then number = record {
   roots = ap (λ (x : Gripped U). x.roots) then ∙ (λ i. set (is i).roots 0 (Some (record { 0 = number i })));
   hand = ap (λ (x : Gripped U). x.hand) then ∙ ap (λ (x : Gripped U). x.hand) is;
-  moves = ap (λ (x : Gripped U). x.moves) then ∙ ap (λ (x : Gripped U). x.moves) is;
+  scanned = ap (λ (x : Gripped U). x.scanned) then ∙ ap (λ (x : Gripped U). x.scanned) is;
   tends = ap (λ (x : Gripped U). x.tends) then ∙ ap (λ (x : Gripped U). x.tends) is;
 }
+
+-- of a caller without masks none is there, in eight places
+none_all : (n : ℕ) → 0 < n → list_all is_some (replicate {A = Option Roles} n None) ≡ false
+none_all zero low = absurd (omega (arith, low))
+none_all (suc n) low = refl
+
+none_padded : (n : ℕ) → n ≤ 8 → padded (replicate n None) ≡ replicate 8 None
+none_padded n low =
+    ap (λ (k : ℕ). replicate n None ++ replicate (8 - k) None)
+    (length-replicate n None)
+    ∙ (replicate-append-replicate n (8 - n) None
+    ∙ (let e : n + (8 - n) ≡ 8 = omega (arith, low) in ap (λ (k : ℕ). replicate k None) e))
 
 module _ {U : Type 0} (lawful : U → PlainStore → Type 0) (allowed : U → PlainStore → Entry
     → Type 0) (g : Site U) (z : TableId)
@@ -61,14 +78,28 @@ module _ {U : Type 0} (lawful : U → PlainStore → Type 0) (allowed : U → Pl
           (sym none)))
       by_case false is h = absurd (cc)
 
-  pub sound_fresh : IsSound lawful allowed (fresh_pass z g q)
+  -- a caller without masks is not cleared
+  none_cleared : is_cleared (fresh_part g q) ≡ false
+  none_cleared =
+      let none = none_all g.shape.callers (let e = g.shape.callers_fit in omega arith) in
+      grind (arith, common_steps)
+
+  abbrev sound_fresh : IsSound lawful allowed (fresh_pass z g q)
   sound_fresh =
       let none : Option Version = None in
       let places : List (Option Version) = replicate 256 none in
       record {
         sure = sure;
-        count = counted;
-        places = placed;
+        old = None;
+        listed = record {
+          count = let n = counted in omega (arith, n);
+          places = placed;
+          to = refl;
+          old_is = tt;
+          from = λ e. absurd (true≢false (sym e));
+        };
+        cleared = λ e. absurd (true≢false (sym e ∙ none_cleared));
+        scanned = tt;
         apart = (refl, tt);
         wide = length-set places 0 (Some (common_known g.start).version) ∙ length-replicate 256 none;
         rooted = first_rooted g.start;
@@ -92,18 +123,22 @@ module _ {U : Type 0} (lawful : U → PlainStore → Type 0) (allowed : U → Pl
       roots = first_is.roots i;
       hand = first_is.hand i;
       steps = (me i).0.steps;
-      moves = first_is.moves i;
+      scanned = first_is.scanned i;
       tends = first_is.tends i;
     }
 
-    pub seated_fresh : (to used : ℕ) → (version_at g.shape q 0 0).0 ≡ to → used ≡ first_used g.start q
-        → IsSeated lawful allowed seat (facts_of seat grip) g.shape q to used
-    seated_fresh to used first is = record {
-      own = ap (λ (l : List (Part U)). get_elem? l 0) parts_are ∙ ap some (sym part_is);
-      none = ap (λ (m : Me (Unit {0}) (Knowledge U)). m.1) me;
-      shape_is = ap (λ (p : Part U). p.site.shape) part_is;
-      number_is = ap (λ (p : Part U). p.number) part_is;
-      to_is = ap to_first part_is ∙ first;
-      used_is = ap (λ (p : Part U). p.draft.used) part_is ∙ sym is;
-      sound = subst (IsSound lawful allowed) (sym fresh_is) sound_fresh;
-    }
+    -- what it knows of itself
+    own_fresh : own_of (fresh_part g q) None ≡ fresh_own g.shape q (first_used g.start q)
+    own_fresh = ap (λ (l : List (Option Roles)). record (fresh_own g.shape q (first_used g.start q)) {
+      watch = record (fresh_own g.shape q (first_used g.start q)).watch { masks = l };
+    }) (none_padded g.shape.callers (let e = g.shape.callers_fit in omega arith))
+
+    pub seated_fresh : (own : Own) (used : ℕ) → own ≡ fresh_own g.shape q used
+        → used ≡ first_used g.start q → IsSeated lawful allowed seat (facts_of seat grip) own
+    seated_fresh own used own_is is =
+        subst (λ (f : Facts U). IsSeated lawful allowed seat f own) (sym fresh_is) record {
+          own = ap (λ (l : List (Part U)). get_elem? l 0) parts_are;
+          none = ap (λ (m : Me (Unit {0}) (Knowledge U)). m.1) me;
+          sound = sound_fresh;
+          is = own_is ∙ (ap (fresh_own g.shape q) is ∙ sym own_fresh);
+        }

@@ -1,11 +1,51 @@
 -- What a move of a good machine tells the caller that makes it.
-use Rattle.std.proofs.Common.{◌≡◌, ℕ, Bool, true, false, List, [], ◌∷◌, ◌++◌, slice_index, Option, Some, None, IfSome, Contains, if◌then◌else◌, eqb-true, refl, sym, ap, subst, ◌+◌}
+use Rattle.std.proofs.Common.{◌≡◌, ◌⊎◌, ◌<◌, ◌^◌, ℕ, Bool, true, false, List, [], ◌∷◌, ◌++◌, slice_index, Option, Some, None, IfSome, Contains, if◌then◌else◌, eqb-true, refl, sym, ap, subst, ◌+◌, inl, inr, ⊎_elim}
 use Rattle.hm_cells.proofs.Words.{each_some, from_some, list_any, Any-from_list_any, Contains-push, Name, Entry, PlainStore, IsThere, Stands, store_of, UsageLaws, Known, Site, Part, View, Move, Index, IsPublished, word_of, publishes, finds, next_version, index_with, is_version, without}
-use Rattle.hm_cells.proofs.Words.{IsOfCells, with_held, part_after, view_after, Enabled, HasRoom, IsLawfulMove, Begins, PartIsGood, Core, Good, Carries, applied, Found, others_only, published_once, held_stays, set_here, good_step, enabled_lawful, Knowledge, Learnt}
+use Rattle.hm_cells.proofs.Words.{Shape, Act, Looks, Builds, Ticks, Shifts, with_held, part_after, view_after, Enabled, HasRoom, IsLawfulMove, Begins, PartIsGood, Core, Good, Carries, applied, Found, others_only, published_once, held_stays, set_here, good_step, enabled_lawful, Knowledge, Learnt}
+use Rattle.hm_moves.specs.After.{index_readied}
 use Rattle.hm_moves.specs.Allowed.{HoldsClean, IsLaterThan}
+use Rattle.hm_moves.specs.Places.{Places}
 use Rattle.hm_moves.proofs.Finding.{entry_by, found_now, fresh_now, next_now, index_more, index_here}
+use Rattle.hm_moves.proofs.Heaps.{IsWork}
+use Rattle.hm_moves.proofs.Telling.{told_own}
+use Rattle.hm_moves.specs.declared.moving.Shift.{Shift}
+use Rattle.hm_moves.specs.declared.moving.Shift.TheVariants.{LoadRoles, Join, Turn, Reuse}
+use Rattle.hm_moves.specs.declared.moving.Tick.{Tick}
+use Rattle.hm_moves.specs.declared.moving.Tick.TheVariants.{LoadStage, MoveStage, LoadReply, StoreReply}
+use Rattle.hm_moves.specs.Told.{ShiftFound, TickFound, Told}
+use Rattle.hm_cells.proofs.Scanned.{scanned_still}
+use Rattle.hm_shape.specs.Words.{stage_at}
+use Rattle.hm_cells.proofs.Short.{short_found}
 use Rattle.hm_cells.proofs.Sure.{sure_of}
-use Rattle.hm_cells.proofs.Working.{index_still, is_work}
+
+-- a tick finds no version, nor does a step on roles
+tick_here : (t : Tick) (x : ℕ) (o : Option Known) → TickFound t x o → TickFound t x None
+tick_here LoadStage x o h = refl
+tick_here (MoveStage from to) x o h = refl
+tick_here (LoadReply of) x o h = (refl, h.1)
+tick_here (StoreReply reply) x o h = refl
+
+shift_here : (f : Shift) (x : ℕ) (o : Option Known) → ShiftFound f x o → ShiftFound f x None
+shift_here (LoadRoles of) x o h = (refl, h.1)
+shift_here (Join region roles) x o h = refl
+shift_here (Turn region roles) x o h = refl
+shift_here (Reuse roles) x o h = refl
+
+-- by a look or a build no version leaves the index
+index_still : (s : Shape) (places : Places) (index : Index) (act : Act) → IsWork act → (x : ℕ)
+    → index_readied s places index act x ≡ index
+index_still s places index (Looks l) work x = refl
+index_still s places index (Builds b) work x = refl
+index_still s places index (Ticks t) work x = absurd work
+index_still s places index (Shifts f) work x = absurd work
+
+-- any other act finds and publishes nothing
+works_or_none : (index : Index) (act : Act) (x : ℕ)
+    → IsWork act ⊎ ((finds index act x ≡ None) × (publishes act x ≡ None))
+works_or_none index (Looks l) x = inl tt
+works_or_none index (Builds b) x = inl tt
+works_or_none index (Ticks t) x = inr (refl, refl)
+works_or_none index (Shifts f) x = inr (refl, refl)
 
 -- a list with a version has one of its number
 has_number : (l : List Known) (k : Known)
@@ -47,7 +87,8 @@ module _ {U : Type 0} (lawful : U → PlainStore → Type 0) (allowed : U → Pl
   module _ (c : Core U) (id place : ℕ) (k : Knowledge U) (p : Part U) (m : Move)
       (good : Good lawful allowed p.site c)
       (at : Carries c.views id place k.view p)
-      (may : IsLawfulMove lawful allowed c.heap p m) (work : IsOfCells m.act) where
+      (may : IsLawfulMove lawful allowed c.heap p m)
+      (low : slice_index c.heap.words stage_at < 2 ^ 64) where
     abbrev v : View U
     v = k.view
 
@@ -93,14 +134,30 @@ module _ {U : Type 0} (lawful : U → PlainStore → Type 0) (allowed : U → Pl
     abbrev index : Index
     index = index_with c.heap.index (publishes m.act x)
 
-    held : (n : Known) → Contains new.hands.held n → IsPublished index n
-    held n there = subst (λ (i : Index). IsPublished (index_with i (publishes m.act x)) n)
+    held : IsWork m.act → (n : Known) → Contains new.hands.held n → IsPublished index n
+    held work n there = subst (λ (i : Index). IsPublished (index_with i (publishes m.act x)) n)
         (index_still p.site.shape c.heap.places c.heap.index m.act work x)
         ((after.parts id place w new at_after).hands.held n there)
 
     was_found : Found m.act x found × IfSome found (IsPublished c.heap.index)
-    was_found = found_now lawful allowed c.heap v.seen p good.heap mine names make clean later m.act
-        (is_work m.act work) may.act x refl
+    was_found = was m.act told.what (λ work. found_now lawful allowed c.heap v.seen p good.heap
+        mine names make clean later m.act work may.act x refl)
+      where
+        told : Told lawful allowed p.site m v place p x w
+        told = told_own lawful allowed laws c id place v p good at m may after
+
+        was : (act : Act) → Found act x told.found
+            → (IsWork act → Found act x (finds c.heap.index act x)
+            × IfSome (finds c.heap.index act x) (IsPublished c.heap.index))
+            → Found act x (finds c.heap.index act x)
+            × IfSome (finds c.heap.index act x) (IsPublished c.heap.index)
+        was (Looks l) h f = f tt
+        was (Builds b) h f = f tt
+        was (Ticks t) h f = (tick_here t x told.found h, tt)
+        was (Shifts s) h f = (shift_here s x told.found h, tt)
+
+    worked : IsWork m.act ⊎ ((found ≡ None) × (publishes m.act x ≡ None))
+    worked = works_or_none c.heap.index m.act x
 
     there : IfSome found (IsPublished index)
     there = map_some (IsPublished c.heap.index) (IsPublished index) found
@@ -126,25 +183,37 @@ module _ {U : Type 0} (lawful : U → PlainStore → Type 0) (allowed : U → Pl
       others = others_only p.number v.seen c.heap.history p.calls.mine begins.rest begins.is mine.calls.all
           mine.calls.seen;
       what = was_found.0;
+      short = short_found lawful allowed p.site c good low p names make clean later refl m.act may.act
+          found was_found.0;
       by = entry_by lawful allowed c.heap v.seen p good.heap mine names make clean later m.act may.act x;
       is = ap learnt_now begins.is;
       sure = sure_of lawful allowed p.site (applied c id place v p m) id place w new after at_after;
-      holds = added_before index left (publishes m.act x) held (without p.hands.held m.let_go) found refl
-          there;
-      next = map_some (λ n. (n.version ≡ next_version p) × HasRoom p)
+      holds = ⊎_elim
+          (λ (work : IsWork m.act).
+          added_before index left (publishes m.act x) (held work) (without p.hands.held m.let_go) found refl
+          there)
+          (λ (none : (found ≡ None) × (publishes m.act x ≡ None)).
+          subst (λ (o : Option Known). IfSome o (Contains new.hands.held)) (sym none.0) tt) worked;
+      next = ⊎_elim
+          (λ (work : IsWork m.act).
+          map_some (λ n. (n.version ≡ next_version p) × HasRoom p)
           (λ n. (n.version ≡ next_version p) × Contains new.hands.held n) (publishes m.act x)
           (λ n is both. (
             both.0,
-            added index left (publishes m.act x) held n is (index_here c.heap.index
+            added index left (publishes m.act x) (held work) n is (index_here c.heap.index
                 (publishes m.act x) n is),
           ))
-          (next_now lawful allowed c.heap v.seen p good.heap mine names make clean later m.act may.act x);
+          (next_now lawful allowed c.heap v.seen p good.heap mine names make clean later m.act may.act x))
+          (λ (none : (found ≡ None) × (publishes m.act x ≡ None)).
+          subst (λ (o : Option Known). IfSome o (λ n. (n.version ≡ next_version p)
+          × Contains new.hands.held n)) (sym none.1) tt) worked;
+      scanned = scanned_still lawful allowed c id place v p m good at may after;
     }
 
   -- every enabled move of a good machine tells this
   pub learnt_of : (g : Site U) (c : Core U) (id place : ℕ) (k : Knowledge U) (p : Part U) (m : Move)
       → (good : Good lawful allowed g c) → (at : Carries c.views id place k.view p)
-      → Enabled lawful allowed k.view.seen p m → IsOfCells m.act
+      → Enabled lawful allowed k.view.seen p m → slice_index c.heap.words stage_at < 2 ^ 64
       → Learnt lawful allowed m k place p (slice_index c.heap.words (word_of p m.act))
       (record k {
         view = view_after k.view place c.heap.history p m (slice_index c.heap.words (word_of p m.act))
@@ -152,7 +221,7 @@ module _ {U : Type 0} (lawful : U → PlainStore → Type 0) (allowed : U → Pl
         steps = k.steps + 1;
         before = [];
       })
-  learnt_of g c id place k p m good at may work =
+  learnt_of g c id place k p m good at may low =
       own_learnt c id place k p m
       (subst (λ (z : Site U). Good lawful allowed z c) (sym (good.parts id place k.view p at).site) good) at
-      (enabled_lawful lawful allowed g c id place k.view p m good at may) work
+      (enabled_lawful lawful allowed g c id place k.view p m good at may) low

@@ -1,20 +1,19 @@
 -- When a pass may exchange a link for its next version, and what that leaves.
-use Rattle.std.proofs.Common.{◌≡◌, ◌≤◌, ◌+◌, ◌^◌, ℕ, zero, suc, Bool, ne_eqb, [], ◌∷◌, ◌++◌, Option, Some, None, IfSome, Contains, if◌then◌else◌, refl, sym, ap, ◌∙◌, subst, arith, inl}
-use Rattle.hm_cells.proofs.Words.{◌==◌, option_to_list, length-map, Seat, Shape, Version, word_at, naming_word, Root, Entry, PlainStore, MayEnter, name_of, Known, Builds, LinkStore, IsFit, IsKnownField, IsKnownName, Turns, HasHand, HasRoom, done_limit, becomes, publishes, next_version, count_of, part_after}
-use Rattle.hm_cells.proofs.Words.{IsLink, Knowledge, Want, Nothing, Fetch, Store, StoreIf, Gripped, Facts, Fits, Made, IsLookable, known_at, sight_of, IsWholeCopy, MayChange, MayStore, field_of, linked, move_by, stored, taken, turned, Exchanges, IsReady, IsSeated, Learns, facts_of, Takes, some_more}
+use Rattle.std.proofs.Common.{◌≡◌, ◌≤◌, ◌+◌, ◌^◌, ℕ, zero, suc, Bool, true, false, ne_eqb, [], ◌∷◌, ◌++◌, Option, Some, None, IfSome, Contains, if◌then◌else◌, refl, sym, ap, ◌∙◌, subst, arith, inl}
+use Rattle.hm_moves.specs.Allowed.{IsPast, MayLink}
+use Rattle.hm_cells.proofs.Words.{◌==◌, option_to_list, length-map, Seat, Shape, Version, IsVersionOf, word_at, naming_word, Root, Entry, PlainStore, MayEnter, MayMake, name_of, Known, Move, Builds, LinkStore, IsFit, IsKnownField, IsKnownName, Turns, HasHand, HasRoom, done_limit, becomes, publishes, next_version, part_after}
+use Rattle.hm_cells.proofs.Words.{IsLink, Knowledge, Want, Nothing, Fetch, Store, StoreIf, Gripped, Facts, IsLookable, known_at, sight_of, IsWholeCopy, MayChange, MayStore, field_of, linked, move_in, stored, taken, turned, Exchanges, IsReady, IsSeated, Learns, Own, facts_of, loading, some_more}
 use Rattle.hm_moves.specs.declared.moving.Act.{Act}
+use Rattle.hm_moves.specs.declared.moving.Build.{Build}
 use Rattle.hm_cells.specs.declared.want.WantField.{WantField}
 use Rattle.hm_cells.specs.declared.want.WantField.TheVariants.{Number, Refer}
 use Rattle.hm_cells.proofs.Fields.{small_link}
-use Rattle.hm_cells.proofs.Moved.{moved}
+use Rattle.hm_cells.proofs.Loading.{look, word_here}
+use Rattle.hm_cells.proofs.OwnedBuilds.{counting, later_own, linked_own}
+use Rattle.hm_cells.proofs.OwnedLooks.{version_found}
 use Rattle.hm_cells.proofs.Ready.{known_look, ready}
-use Rattle.hm_cells.proofs.Storing.{next_is}
+use Rattle.hm_cells.proofs.Storing.{Built, build_now, next_is}
 use Rattle.hm_cells.proofs.Wanting.{HasLengths, refs_known, root_known}
-
--- the act of an exchange with a want
-abbrev pub link_by : {U : Type 0} → Facts U → Version → Want → Act
-link_by s v want = Builds (LinkStore (known_at s v) (linked s (known_at s v) want)
-    (Some (stored s (known_at s v) want)))
 
 -- an exchange that found 0 publishes, and takes what it published into the hand
 pub link_published : (at fresh : Known) (entry : Option Entry) (x : ℕ) → x ≡ 0
@@ -31,6 +30,18 @@ hand_zero : (at fresh : Known) (entry : Option Entry) (x : ℕ) (found : Option 
     → taken (Builds (LinkStore at fresh entry)) x found ≡ fresh.version ∷ []
 hand_zero at fresh entry x None h e = ap (λ (w : ℕ). taken (Builds (LinkStore at fresh entry)) w None) e
 hand_zero at fresh entry x (Some k) h e = absurd (let a = h.0 in omega arith)
+
+-- what a link names is found
+found_zero : (at : Known) (x : ℕ) (found : Option Known) → IsLink at x found → x ≡ 0 → found ≡ None
+found_zero at x None h e = refl
+found_zero at x (Some k) h e = absurd (let a = h.0 in omega arith)
+
+found_later : (at : Known) (x : ℕ) (found : Option Known) (later : Version) → IsLink at x found
+    → x ≡ naming_word (Some later) → Some later ≡ version_found found
+found_later at x None later h e = absurd (omega arith)
+found_later at x (Some k) later h e =
+    let same : later.0 ≡ k.version.0 = let a = h.0 in omega arith in
+    ap (λ (w : ℕ). Some record { 0 = w }) same
 
 hand_later : (at fresh : Known) (entry : Option Entry) (x : ℕ) (found : Option Known) (later : Version)
     → IsLink at x found → x ≡ naming_word (Some later)
@@ -69,43 +80,158 @@ module _ {U : Type 0} where
     refl,
   )
 
-  module _ (lawful : U → PlainStore → Type 0) (allowed : U → PlainStore → Entry → Type 0) where
-    module _ (seat : Seat (Unit {0}) (Knowledge U)) (grip : Gripped U) (shape : Shape) (number to used : ℕ)
-        (seated : IsSeated lawful allowed seat (facts_of seat grip) shape number to used) (o : Facts U)
-        (is : facts_of seat grip ≡ o) (next : Version) (at : next ≡ next_version o.part) (v : Version)
-        (looked : IsLookable o v) (want : Want) where
-      abbrev s : Facts U
-      s = facts_of seat grip
+  module _ (lawful : U → PlainStore → Type 0) (allowed : U → PlainStore → Entry → Type 0)
+      (seat : Seat (Unit {0}) (Knowledge U)) (grip : Gripped U) (own : Own)
+      (seated : IsSeated lawful allowed seat (facts_of seat grip) own) (o : Facts U)
+      (is : facts_of seat grip ≡ o) (next : Version) (at : next ≡ next_version o.part) (v : Version)
+      (looked : IsLookable o v) where
+    abbrev s : Facts U
+    s = facts_of seat grip
 
-      abbrev k : Known
-      k = known_at s v
+    abbrev k : Known
+    k = known_at s v
+
+    here : IsLookable s v
+    here = look lawful allowed seat grip own seated o is v looked
+
+    -- an exchange that hangs this on the version, with this entry
+    module _ (fresh : Facts U → Known) (entry : Facts U → Option Entry)
+        (new : (fresh s).version ≡ next_version s.part) where
+      abbrev pub hangs : Facts U → Build
+      hangs f = LinkStore (known_at f v) (fresh f) (entry f)
 
       abbrev act : Act
-      act = link_by s v want
+      act = Builds (hangs s)
 
-      look : IsLookable s v
-      look = subst (λ (f : Facts U). IsLookable f v) (sym is) looked
+      abbrev m : Move
+      m = move_in s false act
 
-      pub fresh_is : (linked s k want).version ≡ next
-      fresh_is = next_is lawful allowed seat grip shape number to used seated o is next at
+      fresh_is : (fresh s).version ≡ next
+      fresh_is = new ∙ next_is lawful allowed seat grip own seated o is next at
 
-      turns_link : (x : ℕ) → becomes act x ≡ (if x == 0 then naming_word (Some next) else x)
-      turns_link zero = ap (λ (w : Version). naming_word (Some w)) fresh_is
-      turns_link (suc x) = ap (λ (t : Bool). if t then naming_word (Some next) else suc x)
+      turns_link : (to : ℕ) → to ≡ naming_word (Some next) → (x : ℕ)
+          → becomes act x ≡ (if x == 0 then to else x)
+      turns_link to name zero = ap (λ (w : Version). naming_word (Some w)) fresh_is ∙ sym name
+      turns_link to name (suc x) = ap (λ (t : Bool). if t then to else suc x)
           (sym (ne_eqb (suc x) 0 (λ e. omega arith)))
 
-      pub link_store_ready : (m : Made U) → Fits o m → HasLengths want → MayStore o (known_at o v) want
-          → HasRoom o.part → HasHand o.part → IsWholeCopy o.part (turned o (known_at o v) want)
-          → MayEnter lawful allowed (sight_of o) (stored o (known_at o v) want)
-          → IsReady lawful allowed seat.me.0 (move_by s act) 0
-          (Exchanges (move_by s act) (word_at m.site.shape v 0) (naming_word (Some next)))
-      link_store_ready m fits long may room hand whole enter =
-          let whole' : IsWholeCopy s.part (turned s k want) =
-          subst (λ (f : Facts U). IsWholeCopy f.part (turned f (known_at f v) want)) (sym is) whole in
-          ready lawful allowed seat grip shape number to used seated act
-          (Exchanges (move_by s act) (word_at m.site.shape v 0) (naming_word (Some next))) tt
+      -- the exchange may be made
+      pub exchange_ready : (word to : ℕ) → word ≡ word_at own.shape v 0
+          → to ≡ naming_word (Some next)
+          → MayLink (IsKnownName s.part)
+          (MayMake (lawful s.part.site.usage) (allowed s.part.site.usage) s.seen s.part.number)
+          (s.part.cycle.scan.bare ≡ true) (IsPast s.part) s.part k (fresh s) (entry s)
+          → HasHand o.part
+          → IsReady lawful allowed seat.me.0 m 0 (Exchanges m word 0 to)
+      exchange_ready word to e name may hand =
+          ready lawful allowed seat grip own seated false act
+          (Exchanges m word 0 to)
+          may (subst (λ (f : Facts U). HasHand f.part) (sym is) hand)
           record {
-            look = (known_look s v look).0;
+            place = word_here lawful allowed seat grip own seated o is v looked 0 word e;
+            turns = turns_link to name;
+          }
+
+      module _ (seat' : Seat (Unit {0}) (Knowledge U)) (x : ℕ)
+          (learns : Learns lawful allowed m 0 seat.me.0 x seat'.me.0) where
+        abbrev found : Option Known
+        found = (learns s.part seated.own).found
+
+        what : IsLink k x found
+        what = (learns s.part seated.own).what
+
+        found_fit : IfSome found (IsFit s.part.site.shape (done_limit s.part))
+        found_fit = some_more (Contains (part_after s.part m x found).hands.held)
+            (IsFit s.part.site.shape (done_limit s.part))
+            (λ n h. (learns s.part seated.own).sure.fit n (inl h))
+            found (learns s.part seated.own).holds
+
+        small : x ≤ 2 ^ 32
+        small = small_link s.part.site.shape (done_limit s.part) x k found what found_fit
+
+        -- where 0 was found, the next version is published, counted, and taken into the hand
+        pub made_now : (x ≤ 2 ^ 32 → 0 ≡ x) → (grip' : Gripped U) → seat'.table_id ≡ seat.table_id
+            → seat'.me.1 ≡ seat.me.1
+            → grip' ≡ record grip { hand = grip.hand ++ option_to_list (Some next) }
+            → Built lawful allowed seat grip own seated o is seat' grip' (counting own) (hangs o) 0
+        made_now nought grip' table slots took =
+            let e : x ≡ 0 = sym (nought small) in
+            let out = link_published k (fresh s) (entry s) x e in
+            subst (λ (w : ℕ). Built lawful allowed seat grip own seated o is seat' grip'
+            (counting own) (hangs o) w) e
+            (build_now lawful allowed seat grip own seated o is seat' grip' (counting own) table
+            slots hangs x learns
+            (ap counting seated.is ∙ sym (linked_own s.part seated.sound.old m.let_go k (fresh s)
+            (entry s) x found (found_zero k x found what e) out))
+            (subst (λ (n : Option Known). IfSome n (λ f. f.version ≡ next_version s.part))
+            (sym out) new)
+            (next ∷ [])
+            (ap (λ (w : Version). w ∷ []) (sym fresh_is)
+            ∙ sym (hand_zero k (fresh s) (entry s) x found what e))
+            took)
+
+        -- where a version was found, that is noted, and taken into the hand
+        module _ (later : Version) (names : x ≤ 2 ^ 32 → naming_word (Some later) ≡ x) where
+          is_later : x ≡ naming_word (Some later)
+          is_later = sym (names small)
+
+          named : Some later ≡ version_found found
+          named = found_later k x found later what is_later
+
+          pub later_version : IsVersionOf own.shape later
+          later_version = subst (λ (g : Shape). IsVersionOf g later)
+              (sym (ap (λ (w : Own). w.shape) seated.is))
+              (subst (λ (n : Option Version). IfSome n (IsVersionOf s.part.site.shape)) (sym named)
+              (one found found_fit))
+            where
+              one : (r : Option Known) → IfSome r (IsFit s.part.site.shape (done_limit s.part))
+                  → IfSome (version_found r) (IsVersionOf s.part.site.shape)
+              one None h = tt
+              one (Some n) h = h.version
+
+          pub later_now : (grip' : Gripped U) (own' : Own) → seat'.table_id ≡ seat.table_id
+              → seat'.me.1 ≡ seat.me.1 → own' ≡ loading own false v 0 (Some later)
+              → grip' ≡ record grip { hand = grip.hand ++ option_to_list (Some later) }
+              → Built lawful allowed seat grip own seated o is seat' grip' own' (hangs o)
+              (naming_word (Some later))
+          later_now grip' own' table slots noted took =
+              let out = link_quiet k (fresh s) (entry s) x later.0 is_later in
+              subst (λ (w : ℕ). Built lawful allowed seat grip own seated o is seat' grip' own'
+              (hangs o) w) is_later
+              (build_now lawful allowed seat grip own seated o is seat' grip' own' table slots
+              hangs x learns
+              (noted ∙ ((λ j. loading (seated.is j) false v 0 (named j))
+              ∙ sym (later_own s.part seated.sound.old m.let_go k (fresh s) (entry s) x found v 0
+              out)))
+              (subst (λ (n : Option Known). IfSome n (λ f. f.version ≡ next_version s.part))
+              (sym out) tt)
+              (later ∷ [])
+              (sym (hand_later k (fresh s) (entry s) x found later what is_later))
+              took)
+
+    -- an exchange with a want
+    module _ (want : Want) where
+      abbrev pub fresh_store : Facts U → Known
+      fresh_store f = linked f (known_at f v) want
+
+      abbrev pub entry_store : Facts U → Option Entry
+      entry_store f = Some (stored f (known_at f v) want)
+
+      pub link_store_ready : (word to : ℕ) → word ≡ word_at own.shape v 0
+          → to ≡ naming_word (Some next) → HasLengths want
+          → MayStore o (known_at o v) want → HasRoom o.part → HasHand o.part
+          → IsWholeCopy o.part (turned o (known_at o v) want)
+          → MayEnter lawful allowed (sight_of o) (stored o (known_at o v) want)
+          → IsReady lawful allowed seat.me.0
+          (move_in s false (Builds (hangs fresh_store entry_store refl s))) 0
+          (Exchanges (move_in s false (Builds (hangs fresh_store entry_store refl s))) word 0 to)
+      link_store_ready word to e name long may room hand whole enter =
+          let whole' : IsWholeCopy s.part (turned s k want) =
+          subst (λ (f : Facts U). IsWholeCopy f.part (turned f (known_at f v) want)) (sym is)
+          whole in
+          exchange_ready fresh_store entry_store refl word to e name
+          record {
+            look = (known_look s v here).0;
             later = record {
               room = subst (λ (f : Facts U). HasRoom f.part) (sym is) room;
               version = refl;
@@ -117,65 +243,7 @@ module _ {U : Type 0} where
             copies = tt;
             turns = want_turns s k want long
                 (subst (λ (f : Facts U). MayStore f (known_at f v) want) (sym is) may);
-            may = (subst (λ (f : Facts U). MayEnter lawful allowed (sight_of f) (stored f (known_at f v) want))
-                (sym is) enter);
+            may = subst (λ (f : Facts U). MayEnter lawful allowed (sight_of f)
+                (stored f (known_at f v) want)) (sym is) enter;
           }
-          (subst (λ (f : Facts U). HasHand f.part) (sym is) hand)
-          record {
-            place = ap (λ (w : Version). word_at s.part.site.shape w 0) (known_look s v look).1
-                ∙ ap (λ (g : _). word_at g.shape v 0) (subst (λ (f : Facts U). Fits f m) (sym is) fits).site;
-            turns = turns_link;
-          }
-
-      module _ (seat' : Seat (Unit {0}) (Knowledge U)) (grip' : Gripped U)
-          (table : seat'.table_id ≡ seat.table_id) (slots : seat'.me.1 ≡ seat.me.1) (x : ℕ)
-          (learns : Learns lawful allowed (move_by s act) 0 seat.me.0 x seat'.me.0) where
-        abbrev found : Option Known
-        found = (learns s.part seated.own).found
-
-        small : x ≤ 2 ^ 32
-        small = small_link s.part.site.shape (done_limit s.part) x k found
-            (learns s.part seated.own).what
-            (some_more (Contains (part_after s.part (move_by s act) x found).hands.held)
-            (IsFit s.part.site.shape (done_limit s.part)) (λ n h. (learns s.part seated.own).sure.fit n (inl h))
-            found (learns s.part seated.own).holds)
-
-        -- the pass is seated, and took the exchange, which found this word
-        abbrev Exchanged : ℕ → ℕ → Type 0
-        Exchanged word used' =
-            IsSeated lawful allowed seat' (facts_of seat' grip') shape number to used'
-            × Takes lawful allowed o (link_by o v want) word (facts_of seat' grip')
-
-        exchanged : (named : Option Version) → grip' ≡ record grip { hand = grip.hand ++ option_to_list named }
-            → option_to_list named ≡ taken act x found
-            → (used' : ℕ) → used' ≡ used + count_of (publishes act x) → (word : ℕ) → word ≡ x
-            → Exchanged word used'
-        exchanged named took hand used' more word e =
-            subst (λ (w : ℕ). Exchanged w used') (sym e)
-            (moved lawful allowed seat seat' grip grip' shape number to used seated o is
-            (λ f. link_by f v want) x tt learns table slots named took hand used' more)
-
-        -- where 0 was found, the next version is published, and taken into the hand
-        pub made_now : (x ≤ 2 ^ 32 → 0 ≡ x)
-            → grip' ≡ record grip { hand = grip.hand ++ option_to_list (Some next) } → Exchanged 0 (used + 1)
-        made_now nought took =
-            let e : x ≡ 0 = sym (nought small) in
-            exchanged (Some next) took
-            (ap (λ (w : Version). w ∷ []) (sym fresh_is)
-            ∙ sym (hand_zero k (linked s k want) (Some (stored s k want)) x found
-            (learns s.part seated.own).what e))
-            (used + 1)
-            (ap (λ (o : Option Known). used + count_of o)
-            (sym (link_published k (linked s k want) (Some (stored s k want)) x e))) 0 (sym e)
-
-        -- where a version was found, that is taken into the hand
-        pub later_now : (later : Version) → (x ≤ 2 ^ 32 → naming_word (Some later) ≡ x)
-            → grip' ≡ record grip { hand = grip.hand ++ option_to_list (Some later) }
-            → Exchanged (naming_word (Some later)) used
-        later_now later names took =
-            let e : x ≡ naming_word (Some later) = sym (names small) in
-            let c = ap count_of (link_quiet k (linked s k want) (Some (stored s k want)) x later.0 e) in
-            exchanged (Some later) took
-            (sym (hand_later k (linked s k want) (Some (stored s k want)) x found later
-            (learns s.part seated.own).what e))
-            used (omega arith) (naming_word (Some later)) (sym e)
+          hand

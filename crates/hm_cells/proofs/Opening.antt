@@ -93,7 +93,7 @@ module _ {U : Type 0} (lawful : U → PlainStore → Type 0) (allowed : U → Pl
       core = fresh;
       good = good;
       depicts = record { words_are = refl; views_are = refl };
-      freed = λ row. refl;
+      low = let e = is_fresh.heap.head.stage in omega (arith, e);
       before = before_first;
     }
       where

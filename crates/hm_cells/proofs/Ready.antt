@@ -1,7 +1,8 @@
 -- When a pass may take a move, and what it knows of a version.
-use Rattle.std.proofs.Common.{◌≡◌, ℕ, true, not, List, Option, IfSome, Contains, unwrap_or, sym, ap, ◌∙◌, subst}
-use Rattle.hm_cells.proofs.Words.{each_some, Contains-append_cases, Seat, Shape, Version, IsVersionOf, Entry, PlainStore, Known, Part, IsFit, IsKnownName, MayHold, MayLookInto, MayTake, done_limit, MayMake, Knowledge, Gripped, Facts, Fits, Made, IsSound, IsLookable, first_idle, is_kept, known_at, lookable, nothing_known, move_by, IsOfCells, IsReady, IsSeated, facts_of}
+use Rattle.std.proofs.Common.{◌≡◌, Bool, true, not, List, Option, IfSome, Contains, unwrap_or, sym, ap, ◌∙◌, subst}
+use Rattle.hm_cells.proofs.Words.{each_some, Contains-append_cases, Seat, Version, IsVersionOf, Entry, PlainStore, Known, Part, IsFit, IsKnownName, MayHold, MayLookInto, MayTake, done_limit, MayMake, Knowledge, Gripped, Facts, Fits, Made, IsSound, IsLookable, first_idle, is_kept, known_at, lookable, nothing_known, move_in, IsReady, IsSeated, facts_of, Own}
 use Rattle.hm_moves.specs.declared.moving.Act.{Act}
+use Rattle.hm_moves.specs.Allowed.{IsPast}
 use Rattle.hm_cells.proofs.Found.{among, find_passes, found_there}
 
 -- what is let go of was held
@@ -37,21 +38,26 @@ module _ {U : Type 0} where
         (subst (λ (g : _). IsVersionOf g.shape (known_at s v).version) fits.site
         (look_fit s v sound look).version)
 
-    module _ (seat : Seat (Unit {0}) (Knowledge U)) (grip : Gripped U) (shape : Shape) (number to used : ℕ)
-        (seated : IsSeated lawful allowed seat (facts_of seat grip) shape number to used) (act : Act) where
-      abbrev s : Facts U
-      s = facts_of seat grip
+    module _ (seat : Seat (Unit {0}) (Knowledge U)) (grip : Gripped U) (own : Own)
+        (seated : IsSeated lawful allowed seat (facts_of seat grip) own) (scan : Bool) (act : Act)
+      where
+        abbrev s : Facts U
+        s = facts_of seat grip
 
-      -- an act that the pass may take makes it ready
-      pub ready : (P : Part U → Type 0) → IsOfCells act
-          → MayTake (IsKnownName s.part)
-          (MayMake (lawful s.part.site.usage) (allowed s.part.site.usage) s.seen s.part.number)
-          (s.part.cycle.scan.bare ≡ true) (λ at i target. ⊥) s.part act
-          → MayHold s.part act → P s.part → IsReady lawful allowed seat.me.0 (move_by s act) 0 P
-      ready P work may hold here = record {
-        caller = s.part;
-        carries = seated.own;
-        enabled = record { act = may; holds = hold; let_go = idle_held s.roots s.hand s.part.hands.held };
-        works = work;
-        moves = here;
-      }
+        -- an act that the pass may take makes it ready
+        pub ready : (P : Part U → Type 0)
+            → MayTake (IsKnownName s.part)
+            (MayMake (lawful s.part.site.usage) (allowed s.part.site.usage) s.seen s.part.number)
+            (s.part.cycle.scan.bare ≡ true) (IsPast s.part) s.part act
+            → MayHold s.part act → P s.part
+            → IsReady lawful allowed seat.me.0 (move_in s scan act) 0 P
+        ready P may hold here = record {
+          caller = s.part;
+          carries = seated.own;
+          enabled = record {
+            act = may;
+            holds = hold;
+            let_go = idle_held s.roots s.hand s.part.hands.held;
+          };
+          moves = here;
+        }

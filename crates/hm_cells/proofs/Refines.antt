@@ -1,13 +1,15 @@
 -- A call is one step of the machine.
-use Rattle.std.proofs.Common.{◌≡◌, ◌+◌, ◌≢◌, ℕ, zero, suc, ◌<◌, Bool, true, false, nat_lt, List, [], ◌∷◌, ◌++◌, length, append-nil, map, slice_index, slice_set, Option, if◌then◌else◌, refl, sym, ap, ◌∙◌, subst, ⊎_elim}
+use Rattle.std.proofs.Common.{◌≡◌, ◌+◌, ◌≢◌, ℕ, zero, suc, ◌<◌, Bool, true, false, nat_lt, List, [], ◌∷◌, ◌++◌, length, append-nil, map, slice_index, slice_set, Option, if◌then◌else◌, refl, sym, ap, ◌∙◌, subst, arith, ⊎_elim, ◌^◌}
 use Rattle.hm_cells.proofs.Words.{◌==◌, map-set, map-append, set-get_or, some, some-injective, get_elem?, State, Allows, Splits, Joins, keeps, stepped, Valid, carried_after, Entry, PlainStore, UsageLaws, Known, Site, Part, View, Move, word_of, becomes, entry_of, listed, finds, view, view_after, view_letting, letting, Enabled, Begins, Core, Good, Carries, applied}
-use Rattle.hm_cells.proofs.Words.{split, joined, joined_view, longer, spent_view, Depicts, released, begins_more, left_begins, at_set, set_else, set_here, good_step, enabled_lawful, Knowledge, Shows, Learnt, Learns, Looked, LookTells, IsReady, Loads, Stores, Exchanges, knowledge, looking, noted, met, spent, noting, first_letting, front, back, Heap, FreesNone, IsOfCells}
+use Rattle.hm_cells.proofs.Words.{split, joined, joined_view, longer, spent_view, Depicts, released, begins_more, left_begins, at_set, set_else, set_here, good_step, enabled_lawful, Knowledge, Shows, Learnt, Learns, Looked, LookTells, IsReady, Loads, Stores, Exchanges, knowledge, looking, noted, met, spent, noting, first_letting, front, back, Heap}
 use Rattle.atomic_table.specs.Table.{Act}
 use Rattle.atomic_table.proofs.Lists.{at_map, at_snoc}
 use Rattle.hm_moves.proofs.Seats.{good_split, good_join}
 use Rattle.hm_cells.proofs.Learning.{learnt_of}
+use Rattle.hm_cells.proofs.Short.{stage_low}
+use Rattle.hm_shape.specs.Words.{stage_at}
+use Rattle.hm_moves.specs.Places.{Heap}
 use Rattle.hm_cells.proofs.Sure.{sure_letting}
-use Rattle.hm_cells.proofs.Working.{frees_none}
 use Rattle.hm_moves.proofs.Released.{good_released}
 use Rattle.hm_moves.proofs.Histories.{right_begins}
 use Rattle.hm_cells.specs.Ending.{Heard, gathered, shorter}
@@ -80,7 +82,7 @@ module _ {S U : Type 0} (lawful : U → PlainStore → Type 0) (allowed : U → 
 
   module _ (slots id place : ℕ) (k : Knowledge U) (held : List (ℕ × S)) (m : Move) (p : Part U)
       (own : get_elem? k.view.parts place ≡ some p)
-      (may : Enabled lawful allowed k.view.seen p m) (work : IsOfCells m.act) where
+      (may : Enabled lawful allowed k.view.seen p m) where
     -- whatever the table is, the move is one step of the machine that it shows
     one_step : Allows {S = S} (Shows lawful allowed g) slots id (k, held) (word_of p m.act) (becomes m.act)
         (λ x w. Learns lawful allowed m place k x w.0 × (w.1 ≡ held))
@@ -98,7 +100,7 @@ module _ {S U : Type 0} (lawful : U → PlainStore → Type 0) (allowed : U → 
         } in
         let lawfully = enabled_lawful lawful allowed g c id place k.view p m shows.good carries may in
         let learnt : Learnt lawful allowed m k place p x l =
-        learnt_of lawful allowed laws g c id place k p m shows.good carries may work in (
+        learnt_of lawful allowed laws g c id place k p m shows.good carries may shows.low in (
           l,
           keeps,
           tt,
@@ -106,7 +108,8 @@ module _ {S U : Type 0} (lawful : U → PlainStore → Type 0) (allowed : U → 
             core = applied c id place k.view p m;
             good = good_step lawful allowed laws g c id place k.view p m shows.good carries lawfully;
             depicts = depicts_step s.words s.views c id place k l p m shows.depicts refl;
-            freed = frees_none p c.heap m.act work x shows.freed;
+            low = stage_low c.heap.words p _ _ _ _ m.act lawfully.act
+                (let w = shows.good.heap.wide in omega (arith, w)) shows.low;
             before = before_now s c.heap.history (listed (entry_of p.number m.act x)) id l refl shows.before;
           },
           (
@@ -135,21 +138,21 @@ module _ {S U : Type 0} (lawful : U → PlainStore → Type 0) (allowed : U → 
     pub load_as : (word : ℕ) → IsReady lawful allowed k m place (Loads m word)
         → Allows {S = S} (Shows lawful allowed g) slots id (k, held) word (λ n. n)
         (λ x w. Learns lawful allowed m place k x w.0 × (w.1 ≡ held))
-    load_as word r = step_as slots id place k held m r.caller r.carries r.enabled r.works word (λ n. n)
+    load_as word r = step_as slots id place k held m r.caller r.carries r.enabled word (λ n. n)
         r.moves.place r.moves.stays
 
-    pub exchange_as : (word link : ℕ) → IsReady lawful allowed k m place (Exchanges m word link)
-        → Allows {S = S} (Shows lawful allowed g) slots id (k, held) word (λ n. if n == 0 then link else n)
+    pub exchange_as : (word from to : ℕ) → IsReady lawful allowed k m place (Exchanges m word from to)
+        → Allows {S = S} (Shows lawful allowed g) slots id (k, held) word (λ n. if n == from then to else n)
         (λ x w. Learns lawful allowed m place k x w.0 × (w.1 ≡ held))
-    exchange_as word link r = step_as slots id place k held m r.caller r.carries r.enabled r.works word
-        (λ n. if n == 0 then link else n) r.moves.place r.moves.turns
+    exchange_as word from to r = step_as slots id place k held m r.caller r.carries r.enabled word
+        (λ n. if n == from then to else n) r.moves.place r.moves.turns
 
     -- a store is told the number that it stored
     pub store_as : (word value : ℕ) → IsReady lawful allowed k m place (Stores lawful allowed m word value)
         → Allows {S = S} (Shows lawful allowed g) slots id (k, held) word (λ _. value)
         (λ _ w. Learns lawful allowed m place k value w.0 × (w.1 ≡ held))
     store_as word value r s shows homes at small =
-        let a = step_as slots id place k held m r.caller r.carries r.enabled r.works word
+        let a = step_as slots id place k held m r.caller r.carries r.enabled word
         (λ _. value) r.moves.place r.moves.value_is s
         shows homes at small in
         let learnt : Learnt lawful allowed m k place r.caller value a.0 =
@@ -189,7 +192,7 @@ module _ {S U : Type 0} (lawful : U → PlainStore → Type 0) (allowed : U → 
             views_are = ap (λ (z : List (View U)). slice_set z id l.view) shows.depicts.views_are
                 ∙ sym (map-set seen_by s.views id l);
           };
-          freed = shows.freed;
+          low = shows.low;
           before = subst (λ (h : List Entry). (j : ℕ) (u : Knowledge U)
               → get_elem? (slice_set s.views id l) j ≡ some u → Begins u.before h)
               (append-nil c.heap.history) (before_now s c.heap.history [] id l refl shows.before);
@@ -228,7 +231,7 @@ module _ {S U : Type 0} (lawful : U → PlainStore → Type 0) (allowed : U → 
               ∙ (ap (λ (l : List (View U)). l ++ new.view ∷ []) (sym (map-set seen_by s.views id kept))
               ∙ sym (map-append seen_by (slice_set s.views id kept) (new ∷ []))));
         };
-        freed = shows.freed;
+        low = shows.low;
         before = λ j u there. ⊎_elim
             (λ (t : get_elem? (slice_set s.views id kept) j ≡ some u). ⊎_elim
             (λ (r : (j ≡ id) × (kept ≡ u)). subst (λ (z : Knowledge U). Begins z.before c.heap.history) r.1
@@ -270,7 +273,7 @@ module _ {S U : Type 0} (lawful : U → PlainStore → Type 0) (allowed : U → 
         words_are = ap (λ (h : Heap). h.words) heap ∙ shows.depicts.words_are;
         views_are = views ∙ sym (map-set seen_by s.views id (noting o k));
       };
-      freed = subst FreesNone (sym heap) shows.freed;
+      low = subst (λ (h : Heap). slice_index h.words stage_at < 2 ^ 64) (sym heap) shows.low;
       before = λ j u there. subst (λ (h : Heap). Begins u.before h.history) (sym heap)
           (before_kept j u there);
     }
@@ -332,7 +335,7 @@ module _ {S U : Type 0} (lawful : U → PlainStore → Type 0) (allowed : U → 
               both))
               ∙ sym (map-set seen_by (slice_set s.views id both) other spent));
         };
-        freed = shows.freed;
+        low = shows.low;
         before = λ j u here. ⊎_elim
             (λ (t : (j ≡ other) × (spent ≡ u)). subst (λ (z : Knowledge U). Begins z.before c.heap.history)
             t.1 (nothing_begins c.heap.history))
@@ -383,7 +386,7 @@ module _ {S U : Type 0} (lawful : U → PlainStore → Type 0) (allowed : U → 
                 ∙ (sym (set_there (map seen_by s.views) id k.view (at_map seen_by s.views id k at))
                 ∙ sym (map-set seen_by s.views id l));
           };
-          freed = shows.freed;
+          low = shows.low;
           before = subst (λ (h : List Entry). (j : ℕ) (u : Knowledge U)
               → get_elem? (slice_set s.views id l) j ≡ some u → Begins u.before h)
               (append-nil c.heap.history) (before_now s c.heap.history [] id l refl shows.before);

@@ -1,9 +1,10 @@
 -- A pass that lets go of its first idle version, and moves no word.
 use Rattle.std.proofs.Common.{◌≡◌, ℕ, Bool, true, false, nat_lt, length, if◌then◌else◌, List, [], ◌∷◌, get_or, Option, Some, None, IfSome, Contains, is_some, refl, sym, ap, ◌∙◌, subst, inl, inr, ◌+◌, arith}
-use Rattle.hm_cells.proofs.Words.{All-contains_itself, Seat, Shape, Version, Entry, PlainStore, Known, Part, without, letting, Begins, longer, Knowledge, Gripped, Facts, IsAmong, IsSound, IsSure, find_version, first_idle, names_at}
+use Rattle.hm_cells.proofs.Words.{All-contains_itself, HasScanned, Own, Seat, Version, Entry, PlainStore, Known, Part, without, letting, Begins, longer, Knowledge, Gripped, Facts, IsAmong, IsSound, IsSure, find_version, first_idle, names_at}
 use Rattle.hm_cells.proofs.Words.{sight_of, Meets, rested, at_longer, set_here, Me, first_letting, met, noting, IsSeated, Looked, LookTells, caller_in, facts_of, some, some-injective, some-ne-none, get_elem?}
-use Rattle.hm_cells.specs.Shows.{to_first}
+use Rattle.hm_moves.specs.Cycles.{known_from}
 use Rattle.hm_cells.proofs.Moved.{first_in}
+use Rattle.hm_cells.proofs.Scanned.{any_without, barely}
 use Rattle.hm_cells.proofs.Sure.{sure_let}
 use Rattle.hm_cells.proofs.Found.{IsNamed, among, apart_without, found_without, idle_other, names_stay}
 use Rattle.hm_cells.proofs.Entered.{goes_on}
@@ -40,12 +41,40 @@ module _ {U : Type 0} (lawful : U → PlainStore → Type 0) (allowed : U → Pl
     rooted None c h = tt
     rooted (Some v) c h = still v (inl c) h
 
-    pub sound_rested : IsSure lawful allowed seen (letting s.part idle)
+    -- where it lets go of a version, a clean scan is still the last one
+    scanned_let : (o : Option ℕ) → IfSome o (HasScanned s.part)
+        → IfSome o (HasScanned (letting s.part idle))
+    scanned_let None h = tt
+    scanned_let (Some n) (inl low) = inl low
+    scanned_let (Some n) (inr h) = inr (
+      h.0,
+      h.1,
+      λ yes mark.
+          let b = h.2 yes mark in (
+            barely _ _ _ b.0 (any_without (λ k. known_from s.part k.version) s.part.hands.held idle
+                (sound.sure.bare b.0)),
+            b.1,
+          ),
+    )
+
+    abbrev sound_rested : IsSure lawful allowed seen (letting s.part idle)
         → IsSound lawful allowed (rested s seen steps)
     sound_rested sure = record {
       sure = sure;
-      count = sound.count;
-      places = sound.places;
+      old = sound.old;
+      listed = record {
+        count = sound.listed.count;
+        places = sound.listed.places;
+        to = sound.listed.to;
+        old_is = sound.listed.old_is;
+        from = λ e. let h = sound.listed.from e in record {
+          region = h.region;
+          below = h.below;
+          from = h.from;
+        };
+      };
+      cleared = λ e. rw e refl;
+      scanned = scanned_let s.scanned sound.scanned;
       apart = apart_without s.part.hands.held idle sound.apart;
       wide = sound.wide;
       rooted = λ i d low. rooted (get_or s.roots i d) (All-contains_itself s.roots i d low)
@@ -59,9 +88,8 @@ module _ {U : Type 0} (lawful : U → PlainStore → Type 0) (allowed : U → Pl
         (λ v k c e. stays v k (inl c) e) sound.rooted
 
   -- a seat of the pass's caller that knows what the pass knew once it rested
-  module _ (seat seat' : Seat (Unit {0}) (Knowledge U)) (grip : Gripped U) (shape : Shape)
-      (number to used : ℕ)
-      (seated : IsSeated lawful allowed seat (facts_of seat grip) shape number to used)
+  module _ (seat seat' : Seat (Unit {0}) (Knowledge U)) (grip : Gripped U) (own : Own)
+      (seated : IsSeated lawful allowed seat (facts_of seat grip) own)
       (seen : List Entry) (steps : ℕ)
       (there : get_elem? seat'.me.0.view.parts 0
       ≡ some (letting (facts_of seat grip).part
@@ -87,31 +115,24 @@ module _ {U : Type 0} (lawful : U → PlainStore → Type 0) (allowed : U → Pl
       roots = grip.roots;
       hand = grip.hand;
       steps = counts i;
-      moves = grip.moves;
+      scanned = grip.scanned;
       tends = grip.tends;
     }
-
-    pub sound_now : IsSound lawful allowed (facts_of seat' grip)
-    sound_now = subst (IsSound lawful allowed) (sym rested_is) (sound_rested s seated.sound seen steps sure)
 
     pub names_now : names_at (facts_of seat' grip) ≡ names_at s
     names_now = ap names_at rested_is ∙ names_rested s seated.sound seen steps
 
-    pub seated_now : IsSeated lawful allowed seat' (facts_of seat' grip) shape number to used
-    seated_now = record {
-      own = there ∙ ap some (sym part_is);
+    pub seated_now : IsSeated lawful allowed seat' (facts_of seat' grip) own
+    seated_now = subst (λ (z : Facts U). IsSeated lawful allowed seat' z own) (sym rested_is) record {
+      own = there;
       none = slots;
-      shape_is = ap (λ (q : Part U). q.site.shape) part_is ∙ seated.shape_is;
-      number_is = ap (λ (q : Part U). q.number) part_is ∙ seated.number_is;
-      to_is = ap to_first part_is ∙ seated.to_is;
-      used_is = ap (λ (q : Part U). q.draft.used) part_is ∙ seated.used_is;
-      sound = sound_now;
+      sound = sound_rested s seated.sound seen steps sure;
+      is = seated.is;
     }
 
   -- a seat from which a note was split off
-  module _ (seat seat' : Seat (Unit {0}) (Knowledge U)) (grip : Gripped U) (shape : Shape)
-      (number to used : ℕ)
-      (seated : IsSeated lawful allowed seat (facts_of seat grip) shape number to used)
+  module _ (seat seat' : Seat (Unit {0}) (Knowledge U)) (grip : Gripped U) (own : Own)
+      (seated : IsSeated lawful allowed seat (facts_of seat grip) own)
       (kept : seat'.me ≡ (
         noting (first_idle grip.roots grip.hand (facts_of seat grip).part.hands.held)
             seat.me.0,
@@ -127,7 +148,7 @@ module _ {U : Type 0} (lawful : U → PlainStore → Type 0) (allowed : U → Pl
 
     pub split_rests : (facts_of seat' grip ≡ rested (facts_of seat grip) (facts_of seat grip).seen 1)
         × (names_at (facts_of seat' grip) ≡ names_at (facts_of seat grip))
-        × IsSeated lawful allowed seat' (facts_of seat' grip) shape number to used
+        × IsSeated lawful allowed seat' (facts_of seat' grip) own
     split_rests =
         let there = ap (λ (m : Me (Unit {0}) (Knowledge U)). get_elem? m.0.view.parts 0) kept
         ∙ first_let seat.me.0.view.parts (facts_of seat grip).part seated.own in
@@ -136,27 +157,25 @@ module _ {U : Type 0} (lawful : U → PlainStore → Type 0) (allowed : U → Pl
         let slots = ap (λ (m : Me (Unit {0}) (Knowledge U)). m.1) kept ∙ seated.none in
         let sure = sure_let lawful allowed (facts_of seat grip).seen (facts_of seat grip).part o
         seated.sound.sure in (
-          rested_is seat seat' grip shape number to used seated (facts_of seat grip).seen 1 there sees counts
+          rested_is seat seat' grip own seated (facts_of seat grip).seen 1 there sees counts
               sure table slots,
-          names_now seat seat' grip shape number to used seated (facts_of seat grip).seen 1 there sees counts
+          names_now seat seat' grip own seated (facts_of seat grip).seen 1 there sees counts
               sure table slots,
-          seated_now seat seat' grip shape number to used seated (facts_of seat grip).seen 1 there sees counts
+          seated_now seat seat' grip own seated (facts_of seat grip).seen 1 there sees counts
               sure table slots,
         )
 
   -- a seat that met another carries its own caller first
-  pub own_met : (seat before : Seat (Unit {0}) (Knowledge U)) (grip : Gripped U) (shape : Shape)
-      (number to used : ℕ) → IsSeated lawful allowed seat (facts_of seat grip) shape number to used
+  pub own_met : (seat before : Seat (Unit {0}) (Knowledge U)) (grip : Gripped U) (own : Own) → IsSeated lawful allowed seat (facts_of seat grip) own
       → (other : Knowledge U) → before.me ≡ (met seat.me.0 other, seat.me.1)
       → get_elem? before.me.0.view.parts 0 ≡ some (facts_of seat grip).part
-  own_met seat before grip shape number to used seated other met_is =
+  own_met seat before grip own seated other met_is =
       ap (λ (m : Me (Unit {0}) (Knowledge U)). get_elem? m.0.view.parts 0) met_is
       ∙ at_longer seat.me.0.view.parts other.view.parts 0 (facts_of seat grip).part seated.own
 
   -- it looks at the Table
-  module _ (seat before seat' : Seat (Unit {0}) (Knowledge U)) (grip : Gripped U) (shape : Shape)
-      (number to used : ℕ)
-      (seated : IsSeated lawful allowed seat (facts_of seat grip) shape number to used)
+  module _ (seat before seat' : Seat (Unit {0}) (Knowledge U)) (grip : Gripped U) (own : Own)
+      (seated : IsSeated lawful allowed seat (facts_of seat grip) own)
       (other : Knowledge U) (met_is : before.me ≡ (met seat.me.0 other, seat.me.1))
       (looks : LookTells lawful allowed (first_idle grip.roots grip.hand (caller_in grip.site
       before.me.0.view.parts).hands.held)
@@ -172,7 +191,7 @@ module _ {U : Type 0} (lawful : U → PlainStore → Type 0) (allowed : U → Pl
     both = longer pass.seen other.view.seen
 
     there_met : get_elem? before.me.0.view.parts 0 ≡ some pass.part
-    there_met = own_met seat before grip shape number to used seated other met_is
+    there_met = own_met seat before grip own seated other met_is
 
     looked : Looked lawful allowed idle_met before.me.0 0 pass.part seat'.me.0
     looked = subst (λ (q : Part U). Looked lawful allowed
@@ -200,14 +219,14 @@ module _ {U : Type 0} (lawful : U → PlainStore → Type 0) (allowed : U → Pl
     none_now : seat'.me.1 ≡ []
     none_now = slots ∙ (ap (λ (m : Me (Unit {0}) (Knowledge U)). m.1) met_is ∙ seated.none)
 
-    pub met_seated : IsSeated lawful allowed seat' (facts_of seat' grip) shape number to used
-    met_seated = seated_now seat seat' grip shape number to used seated both 2 there_now sees_now counts_now
+    pub met_seated : IsSeated lawful allowed seat' (facts_of seat' grip) own
+    met_seated = seated_now seat seat' grip own seated both 2 there_now sees_now counts_now
         sure_now table none_now
 
     -- the pass goes on
     pub meets_now : Meets lawful allowed pass other.view.seen (facts_of seat' grip)
     meets_now =
-        let is = rested_is seat seat' grip shape number to used seated both 2 there_now sees_now counts_now
+        let is = rested_is seat seat' grip own seated both 2 there_now sees_now counts_now
         sure_now table none_now in
         let begins : Begins pass.seen (longer pass.seen both) =
         subst (λ (l : List Entry). Begins pass.seen (longer pass.seen l)) sees_met
@@ -215,7 +234,7 @@ module _ {U : Type 0} (lawful : U → PlainStore → Type 0) (allowed : U → Pl
         (ap (λ (m : Me (Unit {0}) (Knowledge U)). m.0.before) met_is) looked.begins) in
         record {
           is = is;
-          names = names_now seat seat' grip shape number to used seated both 2 there_now sees_now counts_now
+          names = names_now seat seat' grip own seated both 2 there_now sees_now counts_now
               sure_now table none_now;
           goes = subst (λ (f : Facts U). Rattle.hm_model.specs.Sight.Goes lawful allowed (sight_of pass)
               (sight_of f) []) (sym is)

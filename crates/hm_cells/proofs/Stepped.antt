@@ -1,7 +1,8 @@
 -- What a move leaves of what a pass knew, for the calls that take several.
 use Rattle.std.proofs.Common.{◌≡◌, ◌≢◌, ◌⊎◌, ◌<◌, ◌≤◌, ◌+◌, ◌&&◌, ℕ, zero, suc, Bool, true, false, true≢false, List, [], ◌∷◌, ◌++◌, length, get_or, set, Option, Some, None, IfSome, Contains, unwrap_or, if◌then◌else◌, eqb-true, refl, sym, ap, ◌∙◌, subst, arith, inl, inr, ⊎_elim, get_or-set_same, get_or-set_other}
 use Rattle.hm_cells.proofs.Words.{each_some, from_some, common_steps, nat_tests, ◌==◌, All-contains, Contains-append_right, Version, naming_word, Entry, PlainStore, Known, Part, Looks, Builds, Ticks, Shifts, LoadReference, LoadNumber, StoreOwn, Publish, LinkStore, Shorten, IsFit, publishes, listed, field_look}
-use Rattle.hm_cells.proofs.Words.{IsOfCells, is_naming, unnamed_from, unnamed, written_with, IsWritten, done_limit, Facts, IsHeldAt, IsLookable, IsSound, find_version, first_idle, known_at, lookable, nothing_known, Takes, taken}
+use Rattle.hm_moves.proofs.Heaps.{IsWork}
+use Rattle.hm_cells.proofs.Words.{is_naming, unnamed_from, unnamed, written_with, IsWritten, done_limit, Facts, IsHeldAt, IsLookable, IsSound, find_version, first_idle, known_at, lookable, nothing_known, Takes, taken}
 use Rattle.hm_moves.specs.declared.moving.Act.{Act}
 use Rattle.hm_cells.proofs.Fields.{field_cases}
 use Rattle.hm_cells.proofs.Few.{few_after, not_both}
@@ -166,14 +167,14 @@ module _ {U : Type 0} (lawful : U → PlainStore → Type 0) (allowed : U → Pl
         grind (arith, common_steps, nat_tests)) r)
         safe)
 
-    written_is : IsOfCells act
+    written_is : IsWork act
         → t.part.draft.written ≡ unnamed idle (written_with s.part.draft.written act (publishes act x))
     written_is work = ap (λ (f : Facts U). f.part.draft.written) took.is
         ∙ ap (λ (q : Part U). unnamed idle (written_with q.draft.written act (publishes act x)))
         (still_readied s.part act work x)
 
     -- such a word stays written, where the act publishes nothing and stores another word or none
-    pub written_stays : IsOfCells act → (j w : ℕ) → publishes act x ≡ None
+    pub written_stays : IsWork act → (j w : ℕ) → publishes act x ≡ None
         → ((i word : ℕ) → act ≡ Builds (StoreOwn i word) → i ≢ j)
         → IsWritten s.part.draft.written j w → IsSafe j w → IsWritten t.part.draft.written j w
     written_stays work j w none other was safe =
@@ -202,7 +203,7 @@ module _ {U : Type 0} (lawful : U → PlainStore → Type 0) (allowed : U → Pl
         let here : IsWritten (written_with s.part.draft.written act (publishes act x)) i word =
         subst (λ (a : Act). IsWritten (written_with s.part.draft.written a (publishes a x)) i word) (sym is)
         (get_or-set_same s.part.draft.written i (Some word) None (omega arith)) in
-        let work : IsOfCells act = subst IsOfCells (sym is) tt in
+        let work : IsWork act = subst IsWork (sym is) tt in
         subst (λ (l : List (Option ℕ)). IsWritten l i word) (sym (written_is work))
         (unnamed_still idle (written_with s.part.draft.written act (publishes act x)) i word here
         (safe_test i word safe))

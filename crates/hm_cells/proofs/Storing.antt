@@ -1,10 +1,13 @@
 -- When a pass may store a word of its next version, and what that leaves.
-use Rattle.std.proofs.Common.{◌≡◌, ◌<◌, ◌≤◌, ◌+◌, ℕ, zero, suc, true, [], ◌∷◌, ◌++◌, get_or, Option, Some, None, IsSome, IfSome, Contains, unwrap_or, refl, sym, ap, ◌∙◌, subst, arith, inl, ⊎_elim, append-nil}
-use Rattle.hm_cells.proofs.Words.{slice_index, option_map, option_to_list, Seat, Shape, Version, word_at, naming_word, Name, Entry, PlainStore, Known, Site, Part, Builds, StoreOwn, Publish, reference_at, IsFirst, IsKnownName, IsWritten, Names, Spells, HasHand, HasRoom, next_name}
-use Rattle.hm_cells.proofs.Words.{is_naming, next_version, Knowledge, Gripped, Facts, Fits, Made, IsSound, find_version, place_name, IsWhole, MayPublish, drafted, drafted_name, drafted_numbers, drafted_refs, drafted_word, move_by, taken, version_in, IsReady, IsSeated, Learns, Stores, facts_of, Takes}
+use Rattle.std.proofs.Common.{◌≡◌, ◌<◌, ◌≤◌, ◌+◌, ℕ, zero, suc, true, false, List, [], ◌∷◌, ◌++◌, get_or, Option, Some, None, IsSome, IfSome, Contains, unwrap_or, refl, sym, ap, ◌∙◌, subst, arith, inl, ⊎_elim, append-nil}
+use Rattle.hm_moves.specs.declared.moving.Build.{Build}
+use Rattle.hm_cells.proofs.Words.{slice_index, option_map, option_to_list, Seat, Version, word_at, naming_word, Name, Entry, PlainStore, Known, Move, Part, Builds, StoreOwn, Publish, reference_at, IsFirst, IsKnownName, IsWritten, Names, Spells, HasHand, HasRoom, next_name, part_after, publishes}
+use Rattle.hm_cells.proofs.Words.{is_naming, next_version, Knowledge, Gripped, Facts, IsSound, find_version, place_name, IsWhole, MayPublish, drafted, drafted_name, drafted_numbers, drafted_refs, drafted_word, move_in, taken, version_in, IsReady, IsSeated, Learns, Own, Stores, facts_of, own_of, Takes}
 use Rattle.hm_cells.proofs.Fields.{naming_in}
 use Rattle.hm_cells.proofs.Found.{there_is}
+use Rattle.hm_cells.proofs.Listed.{listed_work}
 use Rattle.hm_cells.proofs.Moved.{moved}
+use Rattle.hm_cells.proofs.OwnedBuilds.{counting, published_own, scanned_built, stored_own}
 use Rattle.hm_cells.proofs.Ready.{ready}
 use Rattle.hm_cells.proofs.Wanting.{place_known}
 
@@ -94,56 +97,103 @@ module _ {U : Type 0} (lawful : U → PlainStore → Type 0) (allowed : U → Pl
       };
     }
 
-  module _ (seat : Seat (Unit {0}) (Knowledge U)) (grip : Gripped U) (shape : Shape) (number to used : ℕ)
-      (seated : IsSeated lawful allowed seat (facts_of seat grip) shape number to used) (o : Facts U)
-      (is : facts_of seat grip ≡ o) (v : Version) (at : v ≡ next_version o.part) where
+  module _ (seat : Seat (Unit {0}) (Knowledge U)) (grip : Gripped U) (own : Own)
+      (seated : IsSeated lawful allowed seat (facts_of seat grip) own) (o : Facts U)
+      (is : facts_of seat grip ≡ o) where
     abbrev here : Facts U
     here = facts_of seat grip
 
-    pub next_is : next_version here.part ≡ v
-    next_is = ap (λ (f : Facts U). next_version f.part) is ∙ sym at
+    -- the pass is seated, and took a step that builds
+    abbrev pub Built : Seat (Unit {0}) (Knowledge U) → Gripped U → Own → Build → ℕ → Type 0
+    Built seat' grip' own' b x = IsSeated lawful allowed seat' (facts_of seat' grip') own'
+        × Takes lawful allowed o (Builds b) x (facts_of seat' grip')
 
-    module _ (m : Made U) (fits : Fits o m) where
-      word_here : (i : ℕ) → word_at here.part.site.shape (next_version here.part) i ≡ word_at m.site.shape v i
-      word_here i = ap (λ (w : Version). word_at here.part.site.shape w i) next_is
-          ∙ ap (λ (g : Site U). word_at g.shape v i) (subst (λ (f : Facts U). Fits f m) (sym is) fits).site
+    -- a step that builds takes this into the hand, where its running words are kept so
+    module _ (seat' : Seat (Unit {0}) (Knowledge U)) (grip' : Gripped U) (own' : Own)
+        (table : seat'.table_id ≡ seat.table_id) (slots : seat'.me.1 ≡ seat.me.1)
+        (f : Facts U → Build) (x : ℕ)
+        (learns : Learns lawful allowed (move_in here false (Builds (f here))) 0 seat.me.0 x
+        seat'.me.0) where
+      abbrev m : Move
+      m = move_in here false (Builds (f here))
 
-      pub own_ready : (i word : ℕ) → i < 16 → HasRoom o.part → (is_naming i ≡ true
-          → Names o.part.hands.held word)
-          → IsReady lawful allowed seat.me.0 (move_by here (Builds (StoreOwn i word))) 0
-          (Stores lawful allowed (move_by here (Builds (StoreOwn i word))) (word_at m.site.shape v i) word)
-      own_ready i word low room named =
-          ready lawful allowed seat grip shape number to used seated (Builds (StoreOwn i word))
-          (Stores lawful allowed (move_by here (Builds (StoreOwn i word))) (word_at m.site.shape v i) word) tt
+      abbrev found : Option Known
+      found = (learns here.part seated.own).found
+
+      pub build_now : own' ≡ own_of (part_after here.part m x found) seated.sound.old
+          → IfSome (publishes (Builds (f here)) x) (λ k. k.version ≡ next_version here.part)
+          → (named : List Version) → named ≡ taken (Builds (f here)) x found
+          → grip' ≡ record grip { hand = grip.hand ++ named }
+          → Built seat' grip' own' (f o) x
+      build_now own_is next named hand took =
+          moved lawful allowed seat seat' grip grip' own own' seated o is (λ s. Builds (f s)) false
+          x learns table slots seated.sound.old
+          (listed_work here.part false m.let_go x found seated.sound.old (Builds (f here)) tt next
+          seated.sound.listed)
+          own_is
+          (took ∙ λ j. record grip {
+            hand = grip.hand ++ hand j;
+            scanned = scanned_built here.part seated.sound.old m.let_go (f here) found
+                grip.scanned j;
+          })
+
+    module _ (v : Version) (at : v ≡ next_version o.part) where
+      -- the next version is the one that the call has computed
+      pub next_is : next_version here.part ≡ v
+      next_is = ap (λ (f : Facts U). next_version f.part) is ∙ sym at
+
+      -- a word of the next version lies where the running words say
+      own_word : (i word : ℕ) → word ≡ word_at own.shape v i
+          → word_at here.part.site.shape (next_version here.part) i ≡ word
+      own_word i word e = ap (λ (w : Version). word_at here.part.site.shape w i) next_is
+          ∙ (ap (λ (w : Own). word_at w.shape v i) (sym seated.is) ∙ sym e)
+
+      -- a store of an own word may be made
+      pub own_ready : (i word place : ℕ) → place ≡ word_at own.shape v i → i < 16 → HasRoom o.part
+          → (is_naming i ≡ true → Names o.part.hands.held word)
+          → IsReady lawful allowed seat.me.0 (move_in here false (Builds (StoreOwn i word))) 0
+          (Stores lawful allowed (move_in here false (Builds (StoreOwn i word))) place word)
+      own_ready i word place e low room named =
+          ready lawful allowed seat grip own seated false (Builds (StoreOwn i word))
+          (Stores lawful allowed (move_in here false (Builds (StoreOwn i word))) place word)
           record {
             below = low;
             room = subst (λ (f : Facts U). HasRoom f.part) (sym is) room;
-            named = λ n. subst (λ (f : Facts U). Names f.part.hands.held word) (sym is) (named n);
+            named = λ n.
+                subst (λ (f : Facts U). Names f.part.hands.held word) (sym is) (named n);
           }
           tt
           record {
-            place = word_here i;
+            place = own_word i place e;
             value_is = λ x. refl;
             blind = λ k l at x y t. record {
               between = t.between;
               found = t.found;
               others = t.others;
               what = t.what;
+              short = t.short;
               by = t.by;
               is = t.is;
               sure = t.sure;
+              scanned = t.scanned;
               holds = t.holds;
               next = t.next;
             };
           }
 
-      pub first_ready : HasRoom o.part → HasHand o.part → IsWhole o.part → MayPublish lawful allowed o
-          → IsReady lawful allowed seat.me.0 (move_by here (Builds (Publish (drafted here.part)))) 0
-          (Stores lawful allowed (move_by here (Builds (Publish (drafted here.part)))) (word_at m.site.shape v 0) 0)
-      first_ready room hand whole may =
-          let whole' : IsWhole here.part = subst (λ (f : Facts U). IsWhole f.part) (sym is) whole in
-          ready lawful allowed seat grip shape number to used seated (Builds (Publish (drafted here.part)))
-          (Stores lawful allowed (move_by here (Builds (Publish (drafted here.part)))) (word_at m.site.shape v 0) 0) tt
+      -- and the store that publishes
+      pub first_ready : (place : ℕ) → place ≡ word_at own.shape v 0 → HasRoom o.part
+          → HasHand o.part → IsWhole o.part → MayPublish lawful allowed o
+          → IsReady lawful allowed seat.me.0
+          (move_in here false (Builds (Publish (drafted here.part)))) 0
+          (Stores lawful allowed (move_in here false (Builds (Publish (drafted here.part))))
+          place 0)
+      first_ready place e room hand whole may =
+          let whole' : IsWhole here.part =
+          subst (λ (f : Facts U). IsWhole f.part) (sym is) whole in
+          ready lawful allowed seat grip own seated false (Builds (Publish (drafted here.part)))
+          (Stores lawful allowed (move_in here false (Builds (Publish (drafted here.part))))
+          place 0)
           record {
             first = first_built here seated.sound whole'
                 (subst (λ (f : Facts U). HasRoom f.part) (sym is) room);
@@ -151,44 +201,53 @@ module _ {U : Type 0} (lawful : U → PlainStore → Type 0) (allowed : U → Pl
           }
           (subst (λ (f : Facts U). HasHand f.part) (sym is) hand)
           record {
-            place = word_here 0;
+            place = own_word 0 place e;
             value_is = λ x. refl;
             blind = λ k l at x y t. record {
               between = t.between;
               found = t.found;
               others = t.others;
               what = t.what;
+              short = t.short;
               by = t.by;
               is = t.is;
               sure = t.sure;
+              scanned = t.scanned;
               holds = t.holds;
               next = t.next;
             };
           }
 
-    module _ (seat' : Seat (Unit {0}) (Knowledge U)) (grip' : Gripped U)
-        (table : seat'.table_id ≡ seat.table_id) (slots : seat'.me.1 ≡ seat.me.1) (x : ℕ) where
-      -- a store takes nothing into the hand
-      pub own_now : (i word : ℕ)
-          → (learns : Learns lawful allowed (move_by here (Builds (StoreOwn i word))) 0 seat.me.0 x seat'.me.0)
-          → IsSeated lawful allowed seat' (facts_of seat' grip) shape number to used
-          × Takes lawful allowed o (Builds (StoreOwn i word)) x (facts_of seat' grip)
-      own_now i word learns =
-          moved lawful allowed seat seat' grip grip shape number to used seated o is
-          (λ f. Builds (StoreOwn i word)) x tt learns table slots None
-          (λ j. record grip { hand = sym (append-nil grip.hand) j })
-          (ap (taken (Builds (StoreOwn i word)) x) (sym (learns here.part seated.own).what))
-          used (omega arith)
+      module _ (seat' : Seat (Unit {0}) (Knowledge U)) (grip' : Gripped U)
+          (table : seat'.table_id ≡ seat.table_id) (slots : seat'.me.1 ≡ seat.me.1) (x : ℕ) where
+        -- a store takes nothing into the hand
+        pub own_now : (i word : ℕ)
+            → (learns : Learns lawful allowed (move_in here false (Builds (StoreOwn i word))) 0
+            seat.me.0 x seat'.me.0)
+            → Built seat' grip own (StoreOwn i word) x
+        own_now i word learns =
+            let what = (learns here.part seated.own).what in
+            build_now seat' grip own table slots (λ s. StoreOwn i word) x learns
+            (seated.is ∙ sym (stored_own here.part seated.sound.old
+            (move_in here false (Builds (StoreOwn i word))).let_go i word x
+            (learns here.part seated.own).found what))
+            tt []
+            (ap (taken (Builds (StoreOwn i word)) x) (sym what))
+            (λ j. record grip { hand = sym (append-nil grip.hand) j })
 
-      -- what is published is in hand
-      pub first_now : grip' ≡ record grip { hand = grip.hand ++ option_to_list (Some v) }
-          → (learns : Learns lawful allowed (move_by here (Builds (Publish (drafted here.part)))) 0 seat.me.0 x
-          seat'.me.0)
-          → IsSeated lawful allowed seat' (facts_of seat' grip') shape number to (used + 1)
-          × Takes lawful allowed o (Builds (Publish (drafted o.part))) x (facts_of seat' grip')
-      first_now took learns =
-          moved lawful allowed seat seat' grip grip' shape number to used seated o is
-          (λ f. Builds (Publish (drafted f.part))) x tt learns table slots (Some v) took
-          (ap (λ (w : Version). w ∷ []) (sym next_is)
-          ∙ ap (taken (Builds (Publish (drafted here.part))) x) (sym (learns here.part seated.own).what))
-          (used + 1) refl
+        -- what is published is counted, and in hand
+        pub first_now : grip' ≡ record grip { hand = grip.hand ++ option_to_list (Some v) }
+            → (learns : Learns lawful allowed
+            (move_in here false (Builds (Publish (drafted here.part)))) 0 seat.me.0 x seat'.me.0)
+            → Built seat' grip' (counting own) (Publish (drafted o.part)) x
+        first_now took learns =
+            let what = (learns here.part seated.own).what in
+            build_now seat' grip' (counting own) table slots (λ s. Publish (drafted s.part)) x
+            learns
+            (ap counting seated.is ∙ sym (published_own here.part seated.sound.old
+            (move_in here false (Builds (Publish (drafted here.part)))).let_go (drafted here.part) x
+            (learns here.part seated.own).found what))
+            refl (v ∷ [])
+            (ap (λ (w : Version). w ∷ []) (sym next_is)
+            ∙ ap (taken (Builds (Publish (drafted here.part))) x) (sym what))
+            took

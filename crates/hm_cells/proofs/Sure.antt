@@ -1,9 +1,23 @@
 -- In a good machine each caller is sure of itself, also after it lets go of a version.
-use Rattle.std.proofs.Common.{◌+◌, ◌*◌, ◌/◌, ◌%◌, ◌^◌, ◌<◌, ◌≤◌, ℕ, ap, List, slice_index, Option, Contains, inl, inr, ⊎_elim, sym, subst, arith, ◌∙◌}
+use Rattle.std.proofs.Common.{◌+◌, ◌*◌, ◌/◌, ◌%◌, ◌^◌, ◌<◌, ◌≤◌, ◌&&◌, ◌||◌, not, nat_le, Bool, true, false, ◌≡◌, refl, ℕ, ap, List, length, slice_index, Option, Contains, inl, inr, ⊎_elim, sym, subst, arith, ◌∙◌}
+use Rattle.hm_moves.specs.Cycles.{field_count, has_masks, holds_from}
 use Rattle.hm_cells.specs.Facts.{most_cycles}
 use Rattle.hm_cells.proofs.Words.{version_count, done_limit, Entry, PlainStore, Known, Site, Part, View, IsPublished, row_of, letting, without, MayLookInto, Core, Good, Carries, names_without, unnamed_was, unnamed_wide, without_held, lawful_before, published_once, rank_small, IsSure}
 use Rattle.std.proofs.Math.Nat.{mul-le-mul_left}
 use Rattle.hm_moves.proofs.Heaps.{look_published}
+
+-- who is bare, or stays so, holds nothing of from-space
+pub bare_holds : (masks passed was from : Bool)
+    → ((masks && passed && not from) || (was && not from)) ≡ true → from ≡ false
+bare_holds masks passed was false e = refl
+bare_holds true true true true e = sym e
+bare_holds true true false true e = sym e
+bare_holds true false true true e = sym e
+bare_holds true false false true e = sym e
+bare_holds false true true true e = sym e
+bare_holds false true false true e = sym e
+bare_holds false false true true e = sym e
+bare_holds false false false true e = sym e
 
 cycles_counted : (w : ℕ) → w % 2 ^ 32 / 4 < most_cycles
 cycles_counted w = omega arith
@@ -36,6 +50,7 @@ module _ {U : Type 0} (lawful : U → PlainStore → Type 0) (allowed : U → Pl
   own_sure c id place v p good at =
       let mine = good.parts id place v p at in
       let heap = good.heap in
+      let shows = good.collects.parts id place v p at in
       let looks : (k : Known) → MayLookInto p k → IsPublished c.heap.index k =
       look_published c.heap v.seen p mine in
       record {
@@ -46,6 +61,10 @@ module _ {U : Type 0} (lawful : U → PlainStore → Type 0) (allowed : U → Pl
         wide = mine.draft.wide;
         named = λ j w n is. mine.draft.named j w n is;
         cycles = cycles_few c id place v p good at;
+        roles = shows.ties.wide;
+        masks = shows.scan.wide;
+        short = shows.scan.short;
+        bare = shows.scan.holds;
         fit = λ k look. record {
           version = heap.placed.fits k (looks k look);
           rank =
@@ -87,6 +106,11 @@ module _ {U : Type 0} (lawful : U → PlainStore → Type 0) (allowed : U → Pl
         named = λ j w n is. names_without p.hands.held o p.draft.written j w is n
             (sure.named j w n (unnamed_was o p.draft.written j w is));
         cycles = sure.cycles;
+        roles = sure.roles;
+        masks = sure.masks;
+        short = sure.short;
+        bare = bare_holds (has_masks p) (nat_le (field_count * length p.hands.own) p.cycle.scan.cursor)
+            p.cycle.scan.bare (holds_from (letting p o));
         fit = λ k look. sure.fit k (was k look);
         once = λ k m a b. sure.once k m (was k a) (was m b);
         calls = sure.calls;

@@ -7,7 +7,6 @@ use Rattle.hm_shape.specs.Words.{stage_word}
 use Rattle.hm_cells.specs.declared.closing.Counts.{Counts}
 use Rattle.hm_cells.specs.Ending.{CarriesAll, EndsWith, Gathers}
 use Rattle.hm_cells.specs.Closing.{AreAll, AreTakenIn, CarriesPass, Ended, EndsIn, HeldToTheEnd, IsTakenIn, IsWholeHistory, counts_of}
-use Rattle.hm_cells.proofs.Reach.{gives_once, keeps_reach}
 
 module _ {A : Type 0} where
   get_last : (xs : List A) (a : A) → slice_get (xs ++ a ∷ []) (length xs) ≡ Some a
@@ -218,8 +217,6 @@ module _ {U : Type 0} where
         core = ends.core;
         good = good;
         safe = safe_good lawful allowed e.site ends.core good;
-        reach = keeps_reach lawful allowed e.site ends.core good;
-        once = gives_once lawful allowed e.site ends.core good ends.freed;
         history = ends.history ∙ sym seen;
         stage = ends.stage_is ∙ sym stage;
       }

@@ -54,11 +54,16 @@ pub use Rattle.hm_moves.proofs.Histories.{come_behind, nothing_more, others_only
 pub use Rattle.hm_moves.proofs.Placed.{published_once, rank_small}
 pub use Rattle.hm_moves.proofs.Places.{set_here, at_end, at_later, at_longer, at_set, set_else}
 pub use Rattle.hm_moves.proofs.Steps.{good_step}
-pub use Rattle.hm_cells.specs.Calls.{IsWhole, Takes, taken, Tells, version_in, IsWholeCopy, MayChange, MayStore, field_of, linked, move_by, stored, turned, after, Meets, rested, MayPublish, drafted, drafted_name, drafted_numbers, drafted_refs, drafted_word, MayWant, wanted, NoteFacts}
-pub use Rattle.hm_cells.specs.Facts.{Facts, Fits, IsAtRest, IsSound, Made, place_name, sight_of, first_idle, is_kept, find_version, IsAmong, IsSure, IsLookable, known_at, names_at, lookable, nothing_known, with_root, without_first, IsHeldAt}
+pub use Rattle.hm_cells.specs.Calls.{IsOwnAt, MayReplySo, Steps, after_in, copied, move_in, own_at, replying, stage_found, IsWhole, Takes, taken, Tells, version_in, IsWholeCopy, MayChange, MayStore, field_of, linked, move_by, stored, turned, after, Meets, rested, MayPublish, drafted, drafted_name, drafted_numbers, drafted_refs, drafted_word, MayWant, wanted, NoteFacts}
+pub use Rattle.hm_cells.specs.Facts.{HasFrom, HasScanned, IsListed, MayEnd, own_place, scanned_after, spoils, Facts, Fits, IsAtRest, IsSound, Made, place_name, sight_of, first_idle, is_kept, find_version, IsAmong, IsSure, IsLookable, known_at, names_at, lookable, nothing_known, with_root, without_first, IsHeldAt}
+pub use Rattle.hm_cells.specs.Owns.{IsGround, IsTaking, cursor_at, cursor_passing, first_of, first_to, found_from, fresh_own, has_all, is_that, knows_from, loading, masking, moving_to, old_count, own_of, own_version, padded, passing, placed_in, scans_in, shift_as, shift_to, shifted_as, shifting, stops_at, unmasked, watch_of}
+pub use Rattle.hm_cells.specs.Plans.{planned, planned_act, planned_scan}
+pub use Rattle.hm_cells.specs.declared.own.Own.{Own}
+pub use Rattle.hm_cells.specs.declared.own.Watch.{Watch}
+pub use Rattle.hm_cells.specs.declared.plan.Plan.{Plan}
 pub use Rattle.hm_cells.specs.Grips.{Gripped, handing, site_of}
 pub use Rattle.hm_cells.specs.Making.{back, first_roots, fresh_pass, fresh_passes, front, newcomer, newcomers, first_used, first_view}
-pub use Rattle.hm_cells.specs.Shows.{FreesNone, IsOfCells, IsSeated, caller_in, facts_of, knowledge, Learnt, Exchanges, IsReady, Learns, some_move, Loads, Shows, Looked, LookTells, Stores, looking, noted, met, spent, noting, first_letting}
+pub use Rattle.hm_cells.specs.Shows.{IsSeated, caller_in, facts_of, knowledge, Learnt, Exchanges, IsReady, Learns, some_move, Loads, Shows, Looked, LookTells, Stores, looking, noted, met, spent, noting, first_letting}
 pub use Rattle.hm_cells.specs.declared.knowledge.Knowledge.{Knowledge}
 pub use Rattle.hm_cells.specs.declared.want.Want.{Want}
 pub use Rattle.hm_cells.specs.declared.want.Want.TheVariants.{Nothing, Fetch, Store, StoreIf}

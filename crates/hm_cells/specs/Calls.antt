@@ -1,6 +1,8 @@
 -- What each call asks of a pass, and what it leaves.
-use Rattle.std.specs.Prelude.{◌≡◌, ◌≢◌, ℕ, zero, suc, ◌+◌, ◌<◌, false, List, [], ◌∷◌, ◌++◌, Option, Some, None, IfSome, Result, Ok, Err, Contains, map, slice_index_or, unwrap_or}
+use Rattle.std.specs.Prelude.{◌≡◌, ◌≢◌, ℕ, zero, suc, ◌+◌, ◌<◌, Bool, true, false, List, [], ◌∷◌, ◌++◌, Option, Some, None, IfSome, Result, Ok, Err, Contains, map, slice_index_or, unwrap_or}
 use Rattle.atomic_table.specs.Seated.{TableId}
+use Rattle.hm_shape.specs.declared.reply.Reply.{Reply}
+use Rattle.hm_shape.specs.declared.reply.ReplyKind.{ReplyKind}
 use Rattle.hm_shape.specs.declared.version.Version.{Version}
 use Rattle.hm_shape.specs.Layout.{first_number, first_reference, link_at, stamp_at}
 use Rattle.hm_shape.specs.Words.{naming_word}
@@ -21,14 +23,15 @@ use Rattle.hm_moves.specs.declared.moving.Act.{Act}
 use Rattle.hm_moves.specs.declared.moving.Move.{Move}
 use Rattle.hm_moves.specs.Acts.{entry_of, publishes, listed, next_version}
 use Rattle.hm_moves.specs.After.{part_after, seen_after, letting}
-use Rattle.hm_moves.specs.Allowed.{next_name, IsWritten, IsBuilt, AreWrittenFrom}
+use Rattle.hm_moves.specs.Allowed.{IsKnownName, IsPast, MayStoreReply, next_name, IsWritten, IsBuilt, AreWrittenFrom}
+use Rattle.hm_moves.specs.Decoding.{seen_word}
 use Rattle.hm_moves.specs.Told.{Found}
 use Rattle.hm_moves.specs.Good.{longer}
 use Rattle.hm_cells.specs.declared.want.Want.{Want}
 use Rattle.hm_cells.specs.declared.want.WantField.{WantField}
 use Rattle.hm_cells.specs.declared.want.WantField.TheVariants as want
 use Rattle.hm_cells.specs.declared.want.Want.TheVariants.{Nothing, Fetch, Store, StoreIf}
-use Rattle.hm_cells.specs.Facts.{Facts, place_name, first_idle, names_at, sight_of}
+use Rattle.hm_cells.specs.Facts.{Facts, IsAmong, find_version, first_idle, names_at, nothing_known, place_name, scanned_after, sight_of}
 
 -- a word names the version whose number is one less, and 0 names none
 abbrev pub version_in : ℕ → Option Version
@@ -50,20 +53,29 @@ link_found (Ok next) = 0
 link_found (Err later) = naming_word (Some later)
 
 module _ {U : Type 0} where
-  -- a pass moves by an act, and lets go of its first idle version
+  -- a pass moves by an act, which may be one of a scan, and lets go of its first idle version
+  abbrev pub move_in : Facts U → Bool → Act → Move
+  move_in s scan act =
+      record { act = act; scan = scan; let_go = first_idle s.roots s.hand s.part.hands.held }
+
+  -- an act of a call on an object is none
   abbrev pub move_by : Facts U → Act → Move
-  move_by s act =
-      record { act = act; scan = false; let_go = first_idle s.roots s.hand s.part.hands.held }
+  move_by s act = move_in s false act
 
   -- the pass after an act that found the word x, which names `found`, where others made entries
   -- meanwhile
-  abbrev pub after : Facts U → Act → List Entry → ℕ → Option Known → Facts U
-  after s act between x found = record s {
+  abbrev pub after_in : Facts U → Bool → Act → List Entry → ℕ → Option Known → Facts U
+  after_in s scan act between x found = record s {
     seen = seen_after s.seen (s.seen ++ between) (entry_of s.part.number act x);
-    part = part_after s.part (move_by s act) x found;
+    part = part_after s.part (move_in s scan act) x found;
     hand = s.hand ++ taken act x found;
+    scanned = scanned_after s.part (move_in s scan act) found s.scanned;
     steps = s.steps + 1;
   }
+
+  -- and after an act of a call on an object
+  abbrev pub after : Facts U → Act → List Entry → ℕ → Option Known → Facts U
+  after s act = after_in s false act
 
   -- the pass after steps that move no word, by which it has seen so much
   abbrev pub rested : Facts U → List Entry → ℕ → Facts U
@@ -103,6 +115,37 @@ module _ {U : Type 0} where
       numbers = drafted_numbers p;
     };
   }
+
+  -- the caller's next version as a copy of one, which comes behind that
+  abbrev pub copied : Facts U → Known → Known
+  copied s k = record {
+    version = next_version s.part;
+    name = k.name;
+    rank = k.rank + 1;
+    contents = k.contents;
+  }
+
+  -- a pass may look into a version of its own
+  abbrev pub IsOwnAt : Facts U → Version → Type 0
+  IsOwnAt s v = IsAmong s.part.hands.own v
+
+  -- what it knows of that
+  abbrev pub own_at : Facts U → Version → Known
+  own_at s v = unwrap_or (find_version s.part.hands.own v) nothing_known
+
+  -- a call replies so to the stage that its pass has seen
+  abbrev pub replying : Facts U → ReplyKind → Reply
+  replying s kind = record { number = s.part.cycle.clock.stage.number; kind = kind }
+
+  -- it may, where a pass that replies Clean to a First has been left bare by its scan
+  abbrev pub MayReplySo : Facts U → ReplyKind → Type 0
+  MayReplySo s kind = MayStoreReply (IsKnownName s.part) (λ e. Unit {0})
+      (s.part.cycle.scan.bare ≡ true) (IsPast s.part) s.part (replying s kind)
+
+  -- the word of a stage that a call found, where it was to move the stage that its pass had seen
+  abbrev pub stage_found : Facts U → Result (Unit {0}) ℕ → ℕ
+  stage_found s (Ok _) = seen_word s.part.cycle.clock.stage
+  stage_found s (Err word) = word
 
   -- a draft is whole where its words 1 to 15 are written, its stamp as 0
   pub record IsWhole (p : Part U) : Type 0 where
@@ -185,18 +228,22 @@ module _ {U : Type 0} where
     Tells (Some e) c d = Enters lawful allowed c d e
 
     -- a call is one move of the machine, and one step, by an act that found the word x
-    pub record Takes (s : Facts U) (act : Act) (x : ℕ) (t : Facts U) : Type 0 where
+    pub record Steps (s : Facts U) (scan : Bool) (act : Act) (x : ℕ) (t : Facts U) : Type 0 where
       -- what others made since, and the version that the word named
       pub between : List Entry
       pub found : Option Known
       pub others : AreOthers s.part.number between
       pub what : Found act x found
-      pub is : t ≡ after s act between x found
+      pub is : t ≡ after_in s scan act between x found
       pub names : names_at t ≡ names_at s
       -- what was found is held, and so is what was published
       pub holds : IfSome found (Contains t.part.hands.held)
       pub holds_new : IfSome (publishes act x) (Contains t.part.hands.held)
       pub tells : Tells (entry_of s.part.number act x) (sight_of s) (sight_of t)
+
+    -- so is a call on an object, which does not scan
+    abbrev pub Takes : Facts U → Act → ℕ → Facts U → Type 0
+    Takes s act x t = Steps s false act x t
 
     -- a call is a meeting: the pass has then seen the longer of two histories, and goes on without
     -- an entry; it took two steps, the joining and the load that tells what was seen

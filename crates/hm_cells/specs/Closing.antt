@@ -1,5 +1,5 @@
 -- What contracts see of closed cells, and what the rule of the Table leaves for good.
-use Rattle.std.specs.Prelude.{◌≡◌, ◌⊎◌, ℕ, suc, ◌<◌, false, List, [], length, slice_get, slice_index, Some}
+use Rattle.std.specs.Prelude.{◌≡◌, ◌⊎◌, ℕ, suc, ◌<◌, List, [], length, slice_get, slice_index, Some}
 use mathlib.Core.Option.{some}
 use lib.ListN.{get_elem?}
 use Rattle.atomic_table.specs.declared.shared.Seat.{Seat}
@@ -16,7 +16,6 @@ use Rattle.hm_moves.specs.Safe.{IsSafe}
 use Rattle.hm_cells.specs.declared.knowledge.Knowledge.{Knowledge}
 use Rattle.hm_cells.specs.declared.closing.Counts.{Counts}
 use Rattle.hm_cells.specs.Facts.{Facts, Fits, Made, sight_of}
-use Rattle.hm_cells.specs.Reach.{GivesOnce, KeepsReach}
 
 -- what all callers of closed cells agreed on, the whole history, the last stage, and each caller's
 -- counts, in order of number; behind them counts of 0 stand for callers that the cells did not have
@@ -27,12 +26,12 @@ pub record Ended (U : Type 0) : Type 0 where
   pub counts : List Counts
 
 module _ {U : Type 0} where
-  -- a pass tells these counts: no region is free and no caller is joined until there is a collector
+  -- a pass tells these counts
   abbrev pub counts_of : Facts U → Counts
   counts_of s = record {
     used = (sight_of s).used;
     free = (sight_of s).free;
-    joined = false;
+    joined = s.part.cycle.ties.joined;
   }
 
   -- these are all passes of the cells, in order of number
@@ -53,15 +52,12 @@ module _ {U : Type 0} where
   CarriesPass c s = (j k : ℕ) × (v : View U) × Carries c.views j k v s.part
 
   module _ (lawful : U → PlainStore → Type 0) (allowed : U → PlainStore → Entry → Type 0) where
-    -- the rule held to the end: there is a good machine, which is safe, gave each version out at
-    -- most once, and gives none in reach out again; all its history is the cells', and its stage
-    -- is their last one
+    -- the rule held to the end: there is a good machine, which is safe, and so gives no version in
+    -- reach out again; all its history is the cells', and its stage is their last one
     pub record HeldToTheEnd (e : Ended U) : Type 0 where
       pub core : Core U
       pub good : Good lawful allowed e.site core
       pub safe : IsSafe e.site core
-      pub reach : KeepsReach e.site core
-      pub once : GivesOnce e.site core
       pub history : core.heap.history ≡ e.history
       pub stage : slice_index core.heap.words stage_at ≡ stage_word e.stage
 

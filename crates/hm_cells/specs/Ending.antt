@@ -10,7 +10,6 @@ use Rattle.hm_moves.specs.declared.part.Part.{Part}
 use Rattle.hm_moves.specs.declared.part.View.{View}
 use Rattle.hm_moves.specs.Good.{Begins, Core, Good, joined_view, longer}
 use Rattle.hm_cells.specs.declared.knowledge.Knowledge.{Knowledge}
-use Rattle.hm_cells.specs.Shows.{FreesNone}
 
 -- each of n callers is among these
 abbrev pub CarriesAll : {U : Type 0} → ℕ → List (Part U) → Type 0
@@ -45,12 +44,11 @@ module _ {U : Type 0} where
 
 module _ {U : Type 0} (lawful : U → PlainStore → Type 0) (allowed : U → PlainStore → Entry → Type 0)
   where
-    -- the rule held to the end: there is a good machine, of which no row was freed, in which this
-    -- view has seen the whole history, and its stage has this word
+    -- the rule held to the end: there is a good machine in which this view has seen the whole
+    -- history, and its stage has this word
     pub record EndsWith (g : Site U) (v : View U) (stage : ℕ) : Type 0 where
       pub core : Core U
       pub good : Good lawful allowed g core
-      pub freed : FreesNone core.heap
       pub id : ℕ
       pub seat : get_elem? core.views id ≡ some v
       pub history : core.heap.history ≡ v.seen

@@ -1,5 +1,5 @@
 -- What contracts see of a pass.
-use Rattle.std.specs.Prelude.{◌≡◌, ℕ, ◌<◌, ◌≤◌, ◌-◌, ◌==◌, ◌||◌, not, Bool, true, false, List, [], ◌∷◌, ◌++◌, length, Option, Some, None, IsSome, IfSome, All, map, slice_get, slice_set, unwrap_or, if◌then◌else◌}
+use Rattle.std.specs.Prelude.{◌≡◌, ◌⊎◌, ℕ, ◌+◌, ◌*◌, ◌<◌, ◌≤◌, ◌-◌, ◌==◌, ◌&&◌, ◌||◌, not, nat_lt, Bool, true, false, List, [], ◌∷◌, ◌++◌, length, Option, Some, None, IsSome, IfSome, All, map, slice_get, slice_set, unwrap_or, if◌then◌else◌}
 use Rattle.std.specs.List.{find, list_any}
 use Rattle.std.specs.Option.{option_map}
 use Rattle.atomic_table.specs.Seated.{TableId}
@@ -7,6 +7,8 @@ use Rattle.hm_shape.specs.declared.shape.Shape.{Shape}
 use Rattle.hm_shape.specs.declared.version.Version.{Version}
 use Rattle.hm_shape.specs.Layout.{version_words}
 use Rattle.hm_shape.specs.Versions.{version_at}
+use Rattle.hm_shape.specs.Words.{IsRoles}
+use Rattle.hm_shape.specs.declared.roles.Role.TheVariants.{To, Old, From}
 use Rattle.hm_model.specs.declared.object.Name.{Name}
 use Rattle.hm_model.specs.declared.entry.Entry.{Entry}
 use Rattle.hm_model.specs.declared.root.Root.{Root}
@@ -17,10 +19,16 @@ use Rattle.hm_model.specs.Sight.{Sight}
 use Rattle.hm_moves.specs.declared.part.Known.{Known}
 use Rattle.hm_moves.specs.declared.part.Site.{Site}
 use Rattle.hm_moves.specs.declared.part.Part.{Part}
+use Rattle.hm_moves.specs.declared.moving.Act.{Act}
+use Rattle.hm_moves.specs.declared.moving.Act.TheVariants.{Looks, Builds, Ticks, Shifts}
+use Rattle.hm_moves.specs.declared.moving.Move.{Move}
+use Rattle.hm_moves.specs.declared.moving.Shift.TheVariants.{LoadRoles, Join, Turn, Reuse}
+use Rattle.hm_moves.specs.Cycles.{field_count, has_masks, holds_from, is_cleared, is_first, is_open, is_scan, is_scanning, meets, role_at}
 use Rattle.hm_moves.specs.Places.{IsFit}
 use Rattle.hm_moves.specs.After.{is_naming}
 use Rattle.hm_moves.specs.Allowed.{IsWritten, Names, MayLookInto, done_limit}
 use Rattle.hm_moves.specs.Good.{AreApart, Begins}
+use Rattle.hm_cells.specs.Owns.{old_count}
 
 -- between two calls on objects a caller holds at most so many versions
 abbrev pub most_resting : ℕ
@@ -36,16 +44,16 @@ pub record Made (U : Type 0) : Type 0 where
   pub site : Site U
 
 -- which cells a pass was made with, the history that it has seen, its caller, the versions at its
--- root places and in its hand, how many steps its calls took, and how often it moved the cycle on
--- and tended
+-- root places and in its hand, the number of the First in which its scan ended clean, if there is
+-- one, how many steps its calls took, and how often it tended
 pub record Facts (U : Type 0) : Type 0 where
   pub cells : TableId
   pub seen : List Entry
   pub part : Part U
   pub roots : List (Option Version)
   pub hand : List Version
+  pub scanned : Option ℕ
   pub steps : ℕ
-  pub moves : ℕ
   pub tends : ℕ
 
 -- what tells cells from all others: their shape, and what no other table has
@@ -132,7 +140,7 @@ module _ {U : Type 0} where
     span = s.part.site.shape.versions;
     free = 0;
     kept = 0;
-    moves = s.moves;
+    moves = s.part.cycle.clock.moves;
     tends = s.tends;
     to_go = 0;
   }
@@ -144,6 +152,62 @@ module _ {U : Type 0} where
   -- the hand has other versions
   abbrev pub with_hand : Facts U → List Version → Facts U
   with_hand s hand = record s { hand = hand }
+
+  -- a caller's i-th version lies in its Old region, if it has one, or behind that in its To region
+  abbrev pub own_place : Part U → Option ℕ → ℕ → Version
+  own_place p None i = version_at p.site.shape p.number p.draft.region i
+  own_place p (Some region) i =
+      if nat_lt i p.site.shape.versions then version_at p.site.shape p.number region i
+      else version_at p.site.shape p.number p.draft.region (i - p.site.shape.versions)
+
+  -- a caller has given up a region
+  pub record HasFrom (p : Part U) : Type 0 where
+    pub region : ℕ
+    pub below : region < p.site.shape.regions
+    pub from : role_at p.cycle.ties.roles region ≡ From
+
+  -- its own versions are those of its Old region, if it has one, of which all places are used, and
+  -- behind them those of its To region, each in order of place; and once it has joined it has given
+  -- up a region
+  pub record IsListed (p : Part U) (old : Option ℕ) : Type 0 where
+    pub count : length p.hands.own ≡ old_count p.site.shape old + p.draft.used
+    pub places : (i : ℕ) (k : Known) → slice_get p.hands.own i ≡ Some k
+        → k.version ≡ own_place p old i
+    pub to : role_at p.cycle.ties.roles p.draft.region ≡ To
+    pub old_is : IfSome old (λ region. (region < p.site.shape.regions)
+        × (role_at p.cycle.ties.roles region ≡ Old))
+    pub from : p.cycle.ties.joined ≡ true → HasFrom p
+
+  -- a scan of this caller ended clean in the First of this number: where the caller has seen no
+  -- later stage, and has not replied to it nor met from-space since, it is bare, by all masks
+  abbrev pub HasScanned : Part U → ℕ → Type 0
+  HasScanned p n = (n < p.cycle.clock.stage.number)
+      ⊎ ((n ≡ p.cycle.clock.stage.number) × (is_first p.cycle.clock.stage.phase ≡ true)
+      × (is_open p ≡ true → p.cycle.scan.mark ≡ false
+      → (p.cycle.scan.bare ≡ true) × (has_masks p ≡ true)))
+
+  -- a load of roles in that First, and a scan's load that finds from-space, end that
+  abbrev pub spoils : Part U → Move → Option Known → ℕ → Act → Bool
+  spoils p m found n (Looks l) = is_scan p m (Looks l) && meets p found
+  spoils p m found n (Builds b) = false
+  spoils p m found n (Ticks t) = false
+  spoils p m found n (Shifts (LoadRoles of)) =
+      is_first p.cycle.clock.stage.phase && (n == p.cycle.clock.stage.number)
+  spoils p m found n (Shifts (Join region roles)) = false
+  spoils p m found n (Shifts (Turn region roles)) = false
+  spoils p m found n (Shifts (Reuse roles)) = false
+
+  -- the number of the First in which a scan ended clean, after a move
+  abbrev pub scanned_after : Part U → Move → Option Known → Option ℕ → Option ℕ
+  scanned_after p m found None = None
+  scanned_after p m found (Some n) = if spoils p m found n m.act then None else Some n
+
+  -- a scan may end clean where its caller scans and has all masks, its cursor has passed all words,
+  -- it is unmarked, and holds nothing of from-space
+  pub record MayEnd (p : Part U) : Type 0 where
+    pub scans : is_scanning p ≡ true
+    pub cleared : is_cleared p ≡ true
+    pub unmarked : p.cycle.scan.mark ≡ false
 
   -- a pass is at rest where nothing is in hand, and few versions are held
   pub record IsAtRest (s : Facts U) : Type 0 where
@@ -167,6 +231,12 @@ module _ {U : Type 0} where
           → Names p.hands.held w
       -- it has seen no more cycles done than the stage's word can count
       pub cycles : p.cycle.clock.stage.done < most_cycles
+      -- it has a role for each of eight regions, and a mask of each caller, or none
+      pub roles : IsRoles p.cycle.ties.roles
+      pub masks : length p.cycle.scan.masks ≡ p.site.shape.callers
+      -- its scan has passed no more words than it has, and where it is bare it holds no from-space
+      pub short : p.cycle.scan.cursor ≤ length p.hands.own * field_count
+      pub bare : p.cycle.scan.bare ≡ true → holds_from p ≡ false
       -- what it may look into is in the heap, and no two versions have one number
       pub fit : (k : Known) → MayLookInto p k → IsFit p.site.shape (done_limit p) k
       pub once : (k m : Known) → MayLookInto p k → MayLookInto p m
@@ -176,14 +246,15 @@ module _ {U : Type 0} where
       pub opened : Begins (opening_of p.site.start) seen
       pub history : IsLawful (lawful p.site.usage) (allowed p.site.usage) p.site.start seen
 
-    -- a pass is sound where its caller is sure, and has its own versions in its To region alone, in
-    -- order of place; where it holds each version once; and where what its 256 root places and its
-    -- hand name is held
+    -- a pass is sound where its caller is sure, and has its own versions in its To region and in at
+    -- most one Old region; where it holds each version once; where what its 256 root places and its
+    -- hand name is held; and where a clean scan has left it bare
     pub record IsSound (s : Facts U) : Type 0 where
       pub sure : IsSure s.seen s.part
-      pub count : length s.part.hands.own ≡ s.part.draft.used
-      pub places : (i : ℕ) (k : Known) → slice_get s.part.hands.own i ≡ Some k
-          → k.version ≡ version_at s.part.site.shape s.part.number s.part.draft.region i
+      pub old : Option ℕ
+      pub listed : IsListed s.part old
+      pub cleared : is_cleared s.part ≡ true → s.part.cycle.scan.bare ≡ true
+      pub scanned : IfSome s.scanned (HasScanned s.part)
       pub apart : AreApart s.part.hands.held
       pub wide : length s.roots ≡ 256
       pub rooted : All (λ r. IfSome r (IsHeldAt s)) s.roots

@@ -5,13 +5,13 @@ use Rattle.hm_moves.specs.declared.part.Site.{Site}
 use Rattle.hm_cells.specs.declared.knowledge.Holding.{Holding}
 use Rattle.hm_cells.specs.declared.knowledge.Opening.{Opening}
 
--- what all seats agree on, the versions at each root place and in hand, and the counts of moves and
--- tends
+-- what all seats agree on, the versions at each root place and in hand, the number of the First in
+-- which a scan ended clean, if there is one, and the count of tends
 pub record Gripped (U : Type 0) : Type 0 where
   pub site : Site U
   pub roots : List (Option Version)
   pub hand : List Version
-  pub moves : ℕ
+  pub scanned : Option ℕ
   pub tends : ℕ
 
 module _ {U : Type 0} where

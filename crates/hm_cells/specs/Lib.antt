@@ -3,6 +3,7 @@ pub mod Facts
 pub mod Calls
 pub mod Shows
 pub mod Making
-pub mod Reach
+pub mod Owns
+pub mod Plans
 pub mod Ending
 pub mod Closing

@@ -34,8 +34,8 @@ module _ {U : Type 0} where
     part = fresh_part g q;
     roots = first_roots g.start;
     hand = [];
+    scanned = None;
     steps = 0;
-    moves = 0;
     tends = 0;
   }
 

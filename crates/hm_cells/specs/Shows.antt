@@ -1,13 +1,12 @@
 -- The rule of the Table: its words and all views show a good state of the machine.
-use Rattle.std.specs.Prelude.{◌≡◌, ℕ, false, List, [], ◌∷◌, ◌++◌, ◌==◌, Option, None, IfSome, Contains, map, if◌then◌else◌, ◌+◌}
+use Rattle.std.specs.Prelude.{◌≡◌, ◌<◌, ◌^◌, ℕ, false, slice_index, List, [], ◌∷◌, ◌++◌, ◌==◌, Option, None, IfSome, Contains, map, if◌then◌else◌, ◌+◌}
 use mathlib.Core.Option.{some}
 use lib.ListN.{get_elem?}
 use Rattle.atomic_table.specs.Table.{State}
 use Rattle.atomic_table.specs.Seated.{TableId}
 use Rattle.atomic_table.specs.declared.shared.Seat.{Seat}
 use Rattle.hm_shape.specs.declared.shape.Shape.{Shape}
-use Rattle.hm_shape.specs.Versions.{version_at}
-use Rattle.hm_shape.specs.Words.{word_count}
+use Rattle.hm_shape.specs.Words.{stage_at, word_count}
 use Rattle.hm_model.specs.declared.entry.Entry.{Entry}
 use Rattle.hm_model.specs.Store.{PlainStore}
 use Rattle.hm_model.specs.Effect.{caller_of}
@@ -18,33 +17,34 @@ use Rattle.hm_moves.specs.declared.part.Part.{Part}
 use Rattle.hm_moves.specs.declared.part.View.{View}
 use Rattle.hm_moves.specs.declared.moving.Act.{Act}
 use Rattle.hm_moves.specs.declared.moving.Act.TheVariants.{Looks, Builds, Ticks, Shifts}
+use Rattle.hm_moves.specs.declared.moving.Tick.TheVariants.{LoadStage, MoveStage, LoadReply, StoreReply}
 use Rattle.hm_moves.specs.declared.moving.Build.TheVariants.{StoreOwn}
 use Rattle.hm_moves.specs.declared.moving.Move.{Move}
 use Rattle.hm_moves.specs.Acts.{word_of, becomes, entry_of, publishes, next_version}
 use Rattle.hm_moves.specs.After.{part_after, view, view_after, view_letting, letting}
 use Rattle.hm_moves.specs.Allowed.{Enabled}
 use Rattle.hm_moves.specs.Good.{Begins, Core, Good, joined_view, longer, spent_view, Depicts}
-use Rattle.hm_moves.specs.Places.{Heap}
 use Rattle.hm_moves.specs.Told.{Found}
 use Rattle.hm_moves.specs.Fresh.{fresh_part}
 use Rattle.hm_cells.specs.declared.knowledge.Knowledge.{Knowledge}
 use Rattle.hm_cells.specs.Grips.{Gripped}
-use Rattle.hm_cells.specs.Facts.{Facts, IsSure, IsSound}
+use Rattle.hm_cells.specs.declared.own.Own.{Own}
+use Rattle.hm_cells.specs.Facts.{Facts, HasScanned, IsSure, IsSound, spoils}
+use Rattle.hm_cells.specs.Owns.{own_of}
 
 -- a move that stands for none until a call picks its own
 abbrev pub some_move : Move
 some_move = record { act = Builds (StoreOwn 0 0); scan = false; let_go = None }
 
--- no step of these cells looks at the stage or at roles: each is a look or a build
-abbrev pub IsOfCells : Act → Type 0
-IsOfCells (Looks l) = Unit {0}
-IsOfCells (Builds b) = Unit {0}
-IsOfCells (Ticks t) = ⊥
-IsOfCells (Shifts f) = ⊥
-
--- so none of a heap's rows was freed
-abbrev pub FreesNone : Heap → Type 0
-FreesNone h = (row : ℕ) → h.places.freed row ≡ 0
+-- the word of a reply that is loaded has a number of 32 bits
+abbrev pub IsShort : Act → ℕ → Type 0
+IsShort (Looks l) x = Unit {0}
+IsShort (Builds b) x = Unit {0}
+IsShort (Ticks LoadStage) x = Unit {0}
+IsShort (Ticks (MoveStage from to)) x = Unit {0}
+IsShort (Ticks (LoadReply of)) x = x < 2 ^ 34
+IsShort (Ticks (StoreReply reply)) x = Unit {0}
+IsShort (Shifts f) x = Unit {0}
 
 module _ {U : Type 0} where
   -- what a seat knows before its calls take a step, where it has met nobody
@@ -73,14 +73,10 @@ module _ {U : Type 0} where
     part = caller_in grip.site seat.me.0.view.parts;
     roots = grip.roots;
     hand = grip.hand;
+    scanned = grip.scanned;
     steps = seat.me.0.steps;
-    moves = grip.moves;
     tends = grip.tends;
   }
-
-  -- a To region begins with a version of this number
-  abbrev pub to_first : Part U → ℕ
-  to_first p = (version_at p.site.shape p.number p.draft.region 0).0
 
   -- a seat's own caller lets go of a version
   abbrev pub first_letting : List (Part U) → Option Known → List (Part U)
@@ -132,19 +128,19 @@ module _ {U : Type 0} where
     pub place : word_of p m.act ≡ word
     pub stays : (x : ℕ) → becomes m.act x ≡ x
 
-  -- a move turns this word from 0 to a link, and leaves any other
-  pub record Exchanges (m : Move) (word link : ℕ) (p : Part U) : Type 0 where
+  -- a move turns this word from one number to another, and leaves any other
+  pub record Exchanges (m : Move) (word from to : ℕ) (p : Part U) : Type 0 where
     pub place : word_of p m.act ≡ word
-    pub turns : (x : ℕ) → becomes m.act x ≡ (if x == 0 then link else x)
+    pub turns : (x : ℕ) → becomes m.act x ≡ (if x == from then to else x)
 
   module _ (lawful : U → PlainStore → Type 0) (allowed : U → PlainStore → Entry → Type 0) where
-    -- the words and the views depict a good machine, of which no row was freed, and what a seat had
-    -- seen before a meeting begins its history
+    -- the words and the views depict a good machine, whose stage has a word of 64 bits, and what a
+    -- seat had seen before a meeting begins its history
     pub record Shows {S : Type 0} (g : Site U) (s : State S (Knowledge U)) : Type 0 where
       pub core : Core U
       pub good : Good lawful allowed g core
       pub depicts : Depicts s.words (map (λ k. k.view) s.views) core
-      pub freed : FreesNone core.heap
+      pub low : slice_index core.heap.words stage_at < 2 ^ 64
       pub before : (j : ℕ) (k : Knowledge U) → get_elem? s.views j ≡ some k
           → Begins k.before core.heap.history
 
@@ -158,6 +154,7 @@ module _ {U : Type 0} where
       pub found : Option Known
       pub others : AreOthers p.number between
       pub what : Found m.act x found
+      pub short : IsShort m.act x
       pub by : IfSome (entry_of p.number m.act x) (λ e. caller_of e ≡ p.number)
       pub is : l ≡ learning k place p m between x found
       pub sure : IsSure lawful allowed l.view.seen (part_after p m x found)
@@ -165,6 +162,9 @@ module _ {U : Type 0} where
       pub holds : IfSome found (Contains (part_after p m x found).hands.held)
       pub next : IfSome (publishes m.act x) (λ new. (new.version ≡ next_version p)
           × Contains (part_after p m x found).hands.held new)
+      -- and a clean scan is still the last one, unless the move spoils it
+      pub scanned : (n : ℕ) → HasScanned p n → spoils p m found n m.act ≡ false
+          → HasScanned (part_after p m x found) n
 
     -- so does every move of the caller at a place
     abbrev pub Learns : Move → ℕ → Knowledge U → ℕ → Knowledge U → Type 0
@@ -185,13 +185,11 @@ module _ {U : Type 0} where
     LookTells let_go place k l =
         (p : Part U) → get_elem? k.view.parts place ≡ some p → Looked let_go k place p l
 
-    -- a seat carries a caller at a place, which may take the move, a look or a build, and of which
-    -- this holds
+    -- a seat carries a caller at a place, which may take the move, and of which this holds
     pub record IsReady (k : Knowledge U) (m : Move) (place : ℕ) (P : Part U → Type 0) : Type 0 where
       pub caller : Part U
       pub carries : get_elem? k.view.parts place ≡ some caller
       pub enabled : Enabled lawful allowed k.view.seen caller m
-      pub works : IsOfCells m.act
       pub moves : P caller
 
     -- a move stores this number in this word, and tells the same whatever it found there
@@ -200,14 +198,11 @@ module _ {U : Type 0} where
       pub value_is : (x : ℕ) → becomes m.act x ≡ value
       pub blind : (k l : Knowledge U) (at x y : ℕ) → Learnt m k at p x l → Learnt m k at p y l
 
-    -- a pass is seated where its caller is its seat's own, and the numbers beside it are the
-    -- caller's
-    pub record IsSeated (seat : Seat (Unit {0}) (Knowledge U)) (s : Facts U)
-        (shape : Shape) (number to used : ℕ) : Type 0 where
+    -- a pass is seated where its caller is its seat's own, and what it has of its caller in running
+    -- words is so
+    pub record IsSeated (seat : Seat (Unit {0}) (Knowledge U)) (s : Facts U) (o : Own)
+        : Type 0 where
       pub own : get_elem? seat.me.0.view.parts 0 ≡ some s.part
       pub none : seat.me.1 ≡ []
-      pub shape_is : s.part.site.shape ≡ shape
-      pub number_is : s.part.number ≡ number
-      pub to_is : to_first s.part ≡ to
-      pub used_is : s.part.draft.used ≡ used
       pub sound : IsSound lawful allowed s
+      pub is : o ≡ own_of s.part sound.old

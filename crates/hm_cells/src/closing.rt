@@ -14,9 +14,9 @@ use std::marker::Model;
 pub struct Counts {
     /// How many places were used of its To region.
     pub used: u32,
-    /// How many of its regions were free: none until there is a collector.
+    /// How many Free regions its room counted: none while calls take no other To region.
     pub free: u32,
-    /// Whether it had joined a cycle of collecting: not until there is a collector.
+    /// Whether it had joined a cycle of collecting, and freed nothing since.
     pub joined: bool,
 }
 
@@ -103,7 +103,7 @@ impl<U: Usage> Pass<U> {
         Counts {
             used: self.used(),
             free: self.free(),
-            joined: false,
+            joined: self.joined(),
         }
     }
 
@@ -117,10 +117,7 @@ impl<U: Usage> Pass<U> {
         let Pass {
             seat,
             grip: _,
-            shape: _,
-            number: _,
-            to: _,
-            used: _,
+            own: _,
         } = self;
         seat
     }

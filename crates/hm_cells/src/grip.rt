@@ -1,7 +1,8 @@
-//! What keeps a caller's versions from being let go: its root places, and its hand.
+//! What of a pass changes without a step: its root places and its hand, which keep versions from being let go, and which
+//! scan of it ended clean.
 //!
-//! The hand is for contracts alone, and so are the counts of moves and tends. They are carried in the view of a seat
-//! and never stored, and change by a load of a word that is always 0.
+//! The hand is for contracts alone, and so is the count of tends. They are carried in the view of a seat and never
+//! stored, and change by a load of a word that is always 0.
 ghost use Rattle.std.specs.Prelude.{◌≡◌};
 
 use crate::knowledge::{Holding, Opening};
@@ -23,7 +24,7 @@ impl<U> TableRule<(), Holding<U>, Opening<U>> for Freely {
 
     ghost holds = { λ _ _. Unit {0} };
 
-    ghost first = { λ o. record { site = site_of o; hand = []; moves = 0; tends = 0 } };
+    ghost first = { λ o. record { site = site_of o; hand = []; tends = 0 } };
 }
 
 /// The versions in hand after a step. Each call picks them.
@@ -60,12 +61,13 @@ impl<U> Play<(), Holding<U>> for Tends {
     ghost then = { λ _ m _ w. (w.0 ≡ tended m.0) × (w.1 ≡ m.1) };
 }
 
-/// Contracts see of a grip what its seat knows, and its root places.
+/// Contracts see of a grip what its seat knows, its root places, and the First in which a scan ended clean.
 #[derive(Drop)]
 pub(crate) struct Grip<U> {
     table: Table<(), Holding<U>, Opening<U>, Freely, Global>,
     seat: Seat<(), Holding<U>>,
     roots: [Option<Version>; 256],
+    scanned: Option<u32>,
 }
 
 impl<U> Model for Grip<U> {
@@ -78,7 +80,7 @@ impl<U> Model for Grip<U> {
       site = g.seat.me.0.site;
       roots = g.roots;
       hand = g.seat.me.0.hand;
-      moves = g.seat.me.0.moves;
+      scanned = g.scanned;
       tends = g.seat.me.0.tends;
     } };
 
@@ -99,7 +101,7 @@ impl<U> Grip<U> {
           site = site_of opening.now;
           roots = replicate 256 None;
           hand = [];
-          moves = 0;
+          scanned = None;
           tends = 0;
         }) }
     {
@@ -108,6 +110,7 @@ impl<U> Grip<U> {
             table,
             seat,
             roots: [None; ROOTS],
+            scanned: None,
         })
     }
 
@@ -127,6 +130,20 @@ impl<U> Grip<U> {
         } }
     {
         self.roots[r.0 as usize] = version;
+    }
+
+    /// The number of the First in which a scan ended clean; None where there is none.
+    pub fn scanned(&self) -> Option<u32>
+        ensures { result ≡ self.now.scanned }
+    {
+        self.scanned
+    }
+
+    /// A scan ended clean in the First of this number, or none did.
+    pub fn note_scan(&mut self, scanned: Option<u32>)
+        ensures { self.new ≡ record self.old { scanned = scanned } }
+    {
+        self.scanned = scanned;
     }
 
     /// The version, if one is given, is in hand from then on.

@@ -26,8 +26,6 @@ pub(crate) struct Holding<U> {
     pub site: Site<U>,
     /// The versions in hand, in order, each as often as it was taken and not released.
     pub hand: LinkedList<Version>,
-    /// How often its caller moved the cycle on.
-    pub moves: u64,
     /// How often its caller tended.
     pub tends: u64,
 }

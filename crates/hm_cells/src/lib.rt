@@ -20,12 +20,17 @@
 //! | [`store_own`] | a store of a word of the caller's next version | none |
 //! | [`publish`] | a store of 0 into the link of that version | a Create; the version is published |
 //! | [`link_store`] | an exchange of a link, from 0 | where it finds 0, the wanted Store, or StoreIf that answers Stored; the version is published |
+//! | [`link_copy`] | an exchange of a link, from 0 | none; where it finds 0, the version is published |
+//! | [`shorten`] | a store of a link or a reference of an own version | none |
+//! | [`load_stage`], [`move_stage`] | a load, an exchange of the stage | none |
+//! | [`load_reply`], [`store_reply`] | a load of a reply, a store of one's own | none |
+//! | [`load_roles`], [`store_roles`] | a load of roles, a store of one's own | none |
 //! | [`split`] | none | a note, with a copy of what was seen |
 //! | [`meet`] | none | the longer of two histories is seen |
 //!
-//! The rule of the Table is that its words and the views of all seats show a good state of the machine, in which
-//! no region was freed (`specs/Shows.antt`), so contents, chains and ranks are as the machine keeps them, and the
-//! history is lawful.
+//! The rule of the Table is that its words and the views of all seats show a good state of the machine
+//! (`specs/Shows.antt`), so contents, chains and ranks are as the machine keeps them, what is reached is not given out
+//! again, and the history is lawful.
 //! No running call has a history, a name, a rank or a list of held versions: contracts alone see them, in the
 //! views of seats. Nothing but [`Cells::make`] takes memory.
 //!
@@ -42,17 +47,23 @@ mod grip;
 mod knowledge;
 mod making;
 mod notes;
+mod own;
 mod pass;
+mod plan;
+mod roles;
 mod steps;
 mod table;
 #[cfg(test)]
 mod tests;
+mod ticks;
 mod want;
 
 pub use closing::{Closed, Counts};
 pub use making::Memory;
 pub use notes::{Note, meet, split};
 pub use pass::{Pass, a_pass_is_sound};
-pub use steps::{link_store, load_field, load_link, publish, store_own};
+pub use roles::{load_roles, store_roles};
+pub use steps::{link_copy, link_store, load_field, load_link, publish, shorten, store_own};
 pub use table::Cells;
+pub use ticks::{load_reply, load_stage, move_stage, store_reply};
 pub use want::{Want, WantField};

@@ -6,6 +6,7 @@ ghost use Rattle.hm_cells.specs.Making.{HasFirst};
 
 use crate::grip::Grip;
 use crate::knowledge::{Knowledge, Opening};
+use crate::own::Own;
 use crate::pass::Pass;
 use crate::table::Cells;
 use atomic_table::Seat;
@@ -118,10 +119,7 @@ impl<U: Usage> Pass<U> {
         Ok(Pass {
             seat,
             grip,
-            shape: opening.shape,
-            number,
-            to: Version::at(opening.shape, number, 0, 0).0,
-            used,
+            own: Own::fresh(opening.shape, number, used),
         })
     }
 }

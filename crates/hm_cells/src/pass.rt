@@ -5,27 +5,23 @@ ghost use Rattle.hm_cells.specs.Facts.{IsSound};
 
 use crate::grip::Grip;
 use crate::knowledge::Knowledge;
+use crate::own::Own;
 use atomic_table::Seat;
 use hm_model::{Root, Usage};
-use hm_shape::{Shape, Version};
+use hm_shape::{Reply, Roles, Stage, Version};
 use std::marker::Model;
 
-/// One caller of a heap: its seat, its 256 root places, and how many versions it has published.
+/// One caller of a heap: its seat, its 256 root places, and what it knows of its regions and of the cycle.
 ///
 /// Contracts see of it which cells it was made with, the history that it has seen, what the machine keeps of
-/// its caller, and the versions at its root places and in its hand. A version that a call answers, or that
-/// the word it answers names, is in hand until it is released. Each step lets go of the first held version
-/// that neither a root place nor the hand names.
+/// its caller, the versions at its root places and in its hand, and which scan of it ended clean. A version that a
+/// call answers, or that the word it answers names, is in hand until it is released. Each step lets go of the first
+/// held version that neither a root place nor the hand names.
 #[derive(Drop)]
 pub struct Pass<U: Usage> {
     pub(crate) seat: Seat<(), Knowledge<U>>,
     pub(crate) grip: Grip<U>,
-    pub(crate) shape: Shape,
-    pub(crate) number: u32,
-    // The number of the first version of the caller's To region, and how many of its places are used: their sum is
-    // the next version's number, without a look at the shape between two stores.
-    pub(crate) to: u32,
-    pub(crate) used: u32,
+    pub(crate) own: Own,
 }
 
 impl<U: Usage> Model for Pass<U> {
@@ -38,31 +34,33 @@ impl<U: Usage> Model for Pass<U> {
     ghost view = { λ p. facts_of p.seat p.grip };
 
     ghost invariant = { λ p.
-        IsSeated U.lawful U.allowed p.seat (facts_of p.seat p.grip) p.shape
-        p.number p.to p.used };
+        IsSeated U.lawful U.allowed p.seat (facts_of p.seat p.grip) p.own };
 }
 
 impl<U: Usage> Pass<U> {
     ghost use Rattle.hm_model.specs.Sight.{root_of, SetsRoot, Rests};
     ghost use Rattle.hm_moves.specs.Acts.{next_version};
     ghost use Rattle.hm_moves.specs.Allowed.{HasRoom};
-    ghost use Rattle.hm_cells.specs.Facts.{sight_of, place_name, with_root, with_hand, without_first, IsHeldAt};
+    ghost use Rattle.hm_moves.specs.Cycles.{has_masks, known_from};
+    ghost use Rattle.hm_moves.specs.Decoding.{seen_of};
+    ghost use Rattle.hm_shape.specs.Versions.{IsVersionOf};
+    ghost use Rattle.hm_cells.specs.Facts.{sight_of, place_name, with_root, with_hand, without_first, IsHeldAt, MayEnd};
 
     /// The caller's number.
     pub fn number(&self) -> u32
         ensures { result ≡ (sight_of self.now).number }
     {
-        self.number
+        self.own.number
     }
 
     /// How many places are used of the caller's To region.
     pub fn used(&self) -> u32
         ensures { result ≡ (sight_of self.now).used }
     {
-        self.used
+        self.own.used
     }
 
-    /// How many of the caller's regions are free: none until there is a collector.
+    /// How many Free regions the caller's room counts: none while its calls take no other To region.
     pub fn free(&self) -> u32
         ensures { result ≡ (sight_of self.now).free }
     {
@@ -74,7 +72,93 @@ impl<U: Usage> Pass<U> {
         ensures room { result ≡ (sight_of self.now).room }
         ensures sound { IsSound U.lawful U.allowed self.now }
     {
-        u64::from(self.shape.versions - self.used)
+        u64::from(self.own.shape.versions - self.own.used)
+    }
+
+    /// Whether the caller has joined a cycle, and freed nothing since.
+    pub fn joined(&self) -> bool
+        ensures { result ≡ self.now.part.cycle.ties.joined }
+    {
+        self.own.watch.joined
+    }
+
+    /// Whether it has met from-space outside of its scan, since that began.
+    pub fn marked(&self) -> bool
+        ensures { result ≡ self.now.part.cycle.scan.mark }
+    {
+        self.own.watch.mark
+    }
+
+    /// Whether it has a mask of every caller.
+    pub fn has_masks(&self) -> bool
+        ensures { result ≡ has_masks self.now.part }
+    {
+        self.own.has_all()
+    }
+
+    /// Whether it knows a version of the heap as from-space.
+    pub fn known_from(&self, v: Version) -> bool
+        requires { IsVersionOf self.now.part.site.shape v }
+        ensures { result ≡ known_from self.now.part v }
+    {
+        self.own.knows_from(v)
+    }
+
+    /// The stage that it saw last.
+    pub fn stage(&self) -> Stage
+        ensures { seen_of result ≡ self.now.part.cycle.clock.stage }
+    {
+        let seen = self.own.watch.stage;
+        Stage {
+            number: seen.number,
+            done: seen.done,
+            phase: seen.phase,
+        }
+    }
+
+    /// Its last reply; None exactly where it has not replied yet.
+    pub fn replied(&self) -> Option<Reply>
+        ensures { result ≡ self.now.part.cycle.clock.reply }
+    {
+        self.own.watch.reply
+    }
+
+    /// The roles of its regions.
+    pub fn roles(&self) -> Roles
+        ensures { result ≡ self.now.part.cycle.ties.roles }
+    {
+        self.own.watch.roles
+    }
+
+    /// How many cycles were done when it joined last, 0 where it never joined.
+    pub fn joined_at(&self) -> u32
+        ensures { result ≡ self.now.part.cycle.ties.done }
+    {
+        self.own.watch.done
+    }
+
+    /// How many links and references of its versions in To and Old its scan has passed.
+    pub fn cursor(&self) -> u64
+        ensures { result ≡ self.now.part.cycle.scan.cursor }
+    {
+        self.own.watch.cursor
+    }
+
+    /// The number of the First in which its scan ended clean; None exactly where there is none.
+    pub fn scanned(&self) -> Option<u32>
+        ensures { result ≡ self.now.scanned }
+    {
+        self.grip.scanned()
+    }
+
+    /// Its scan ends clean in the First that it has seen.
+    pub fn end_scan(&mut self)
+        requires { MayEnd self.old.part }
+        ensures { self.new ≡ record self.old {
+          scanned = Some self.old.part.cycle.clock.stage.number;
+        } }
+    {
+        self.grip.note_scan(Some(self.own.watch.stage.number));
     }
 
     /// The version at a root place; None exactly where the place is unset.
@@ -89,17 +173,13 @@ impl<U: Usage> Pass<U> {
         self.grip.root(r)
     }
 
-    /// The i-th version that the caller published, counted from 0; None exactly where there are no more than
-    /// `i`.
+    /// The i-th of its published versions in To and Old, in order of publishing, counted from 0; None exactly where
+    /// there are no more than `i`.
     pub fn published(&self, i: u32) -> Option<Version>
         ensures { result
             ≡ option_map (λ k. k.version) (slice_get self.now.part.hands.own i) }
     {
-        if i < self.used {
-            Some(Version(self.to + i))
-        } else {
-            None
-        }
+        self.own.version(i)
     }
 
     // The version that the caller writes next: the first place of its To region that is not used.
@@ -107,7 +187,7 @@ impl<U: Usage> Pass<U> {
         requires { HasRoom self.now.part }
         ensures { result ≡ next_version self.now.part }
     {
-        Version(self.to + self.used)
+        Version(self.own.to + self.own.used)
     }
 
     /// Whether the place names an object.

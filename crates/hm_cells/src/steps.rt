@@ -1,20 +1,26 @@
-//! The steps of the machine that move one word: one call a step.
-ghost use Rattle.std.specs.Prelude.{◌≡◌, ◌<◌, ◌≤◌, ◌^◌, ◌⊎◌, true, None, IfOk};
+//! The steps of the machine on versions: one call a step.
+ghost use Rattle.std.specs.Prelude.{◌≡◌, ◌<◌, ◌≤◌, ◌^◌, ◌++◌, ◌⊎◌, true, false, None, Some, IfOk, IfSome, if◌then◌else◌};
+ghost use Rattle.std.specs.Option.{option_to_list};
 ghost use Rattle.hm_shape.specs.Layout.{first_number, first_reference, version_words};
+ghost use Rattle.hm_shape.specs.Versions.{IsVersionOf};
 ghost use Rattle.hm_shape.specs.Words.{naming_word};
 ghost use Rattle.hm_moves.specs.declared.moving.Act.TheVariants.{Looks, Builds};
 ghost use Rattle.hm_moves.specs.declared.moving.Look.TheVariants.{LoadLink};
-ghost use Rattle.hm_moves.specs.declared.moving.Build.TheVariants.{StoreOwn, Publish, LinkStore};
+ghost use Rattle.hm_moves.specs.declared.moving.Build.TheVariants.{StoreOwn, Publish, LinkStore, Shorten};
 ghost use Rattle.hm_moves.specs.Places.{IsFit};
 ghost use Rattle.hm_moves.specs.After.{is_naming};
 ghost use Rattle.hm_moves.specs.Acts.{next_version, field_look};
-ghost use Rattle.hm_moves.specs.Allowed.{HasHand, HasRoom, Names, done_limit};
+ghost use Rattle.hm_moves.specs.Allowed.{HasHand, HasRoom, IsPast, Names, done_limit};
+ghost use Rattle.hm_moves.specs.Cycles.{known_from};
 ghost use Rattle.hm_model.specs.Sight.{MayEnter};
-ghost use Rattle.hm_cells.specs.Facts.{Fits, IsLookable, IsSound, known_at, sight_of};
-ghost use Rattle.hm_cells.specs.Calls.{IsWhole, IsWholeCopy, MayPublish, MayStore, MayWant, Takes, drafted, linked, link_found, stored, turned, version_in, wanted};
-ghost use Rattle.hm_moves.specs.declared.moving.Act.TheVariants.{Builds, Looks};
+ghost use Rattle.hm_cells.specs.Facts.{Fits, IsHeldAt, IsLookable, IsSound, known_at, sight_of};
+ghost use Rattle.hm_cells.specs.Calls.{IsOwnAt, IsWhole, IsWholeCopy, MayPublish, MayStore, MayWant, Steps, Takes, copied, drafted, linked, link_found, own_at, stored, turned, version_in, wanted};
+ghost use Rattle.hm_cells.specs.Owns.{IsGround, loading, stops_at};
 
+use crate::grip::Grip;
+use crate::own::Own;
 use crate::pass::Pass;
+use crate::plan::Plan;
 use crate::table::Cells;
 use crate::want::Want;
 use hm_model::Usage;
@@ -23,26 +29,29 @@ use std::marker::Brand;
 
 /// A load of word `i` of a version, from 1 to 15. The version that a reference names is then held, and in
 /// hand.
-/// `scan` tells a load of a scan, and has no effect until there is a collector.
+///
+/// `scan` tells a load of a scan, by a caller that has seen a First and not replied to it: only that moves the cursor
+/// on, and what it finds of from-space sets no mark.
 pub fn load_field<U: Usage>(
     cells: &Cells<U>,
     pass: &mut Pass<U>,
     v: Version,
     i: u32,
-    _scan: bool,
+    scan: bool,
 ) -> u64
     requires cells { Fits pass.old cells.now }
     requires look { IsLookable pass.old v }
     requires word { (0 < i) × (i < version_words) }
     requires hand { HasHand pass.old.part }
-    ensures took { Takes U.lawful U.allowed
-        pass.old (Looks (field_look (known_at pass.old v) i)) result pass.new }
+    ensures took { Steps U.lawful U.allowed
+        pass.old scan (Looks (field_look (known_at pass.old v) i)) result pass.new }
     ensures fit { IsFit pass.old.part.site.shape (done_limit pass.old.part) (known_at pass.old v) }
     ensures sound { IsSound U.lawful U.allowed pass.new }
 {
-    let word = cells.load::<Brand>(&mut pass.seat, &pass.grip, v, i, &Want::Nothing);
-    // In hand before the next step, which lets go of a held version that nothing names.
-    pass.grip.take(named_by(i, word));
+    let at = v.word_of(pass.own.shape, i);
+    let plan = Plan::LoadField { v, i, scan };
+    let word = cells.load::<Brand>(&mut pass.seat, &pass.grip, at, &plan);
+    note(&mut pass.own, &mut pass.grip, scan, v, i, named_by(i, word));
     word
 }
 
@@ -59,33 +68,58 @@ fn named_by(i: u32, word: u64) -> Option<Version>
     }
 }
 
+// What a step on word `i` of a version found is noted, and in hand before the next step, which lets go of a held
+// version that nothing names. A scan that finds from-space has not ended clean.
+fn note<U: Usage>(
+    own: &mut Own,
+    grip: &mut Grip<U>,
+    scan: bool,
+    v: Version,
+    i: u32,
+    found: Option<Version>,
+)
+    requires ground { IsGround own.old }
+    requires found { IfSome found (IsVersionOf own.old.shape) }
+    ensures own { own.new ≡ loading own.old scan v i found }
+    ensures grip { grip.new ≡ record grip.old {
+      hand = grip.old.hand ++ option_to_list found;
+      scanned = if stops_at own.old scan found then None else grip.old.scanned;
+    } }
+{
+    if own.load(scan, v, i, found) {
+        grip.note_scan(None);
+    }
+    grip.take(found);
+}
+
 /// A load of the link of a version. Answers the next version of its object, which is then held, and in hand.
 /// Where there is none, the wanted entry is made: a Fetch of what the version holds, or a StoreIf that
 /// answers Changed.
 ///
-/// `scan` tells a load of a scan, and has no effect until there is a collector.
+/// `scan` tells a load of a scan, as in [`load_field`].
 pub fn load_link<U: Usage>(
     cells: &Cells<U>,
     pass: &mut Pass<U>,
     v: Version,
     want: Want,
-    _scan: bool,
+    scan: bool,
 ) -> Option<Version>
     requires cells { Fits pass.old cells.now }
     requires look { IsLookable pass.old v }
     requires want { MayWant pass.old (known_at pass.old v) want }
     requires hand { HasHand pass.old.part }
-    ensures took { Takes U.lawful U.allowed pass.old
+    ensures took { Steps U.lawful U.allowed pass.old scan
         (Looks (LoadLink (known_at pass.old v) (wanted pass.old (known_at pass.old v) want)))
         (naming_word result) pass.new }
     ensures fit { IsFit pass.old.part.site.shape (done_limit pass.old.part) (known_at pass.old v) }
     ensures sound { IsSound U.lawful U.allowed pass.new }
 {
+    let at = v.word_of(pass.own.shape, LINK);
+    let plan = Plan::LoadLink { v, want, scan };
     // The load that finds no link makes the entry: one step later another version may hang there.
-    let word = cells.load::<Brand>(&mut pass.seat, &pass.grip, v, LINK, &want);
+    let word = cells.load::<Brand>(&mut pass.seat, &pass.grip, at, &plan);
     let next = Version::named(word);
-    // As in load_field: the next step lets go of what nothing names.
-    pass.grip.take(next);
+    note(&mut pass.own, &mut pass.grip, scan, v, LINK, next);
     next
 }
 
@@ -99,9 +133,10 @@ pub fn store_own<U: Usage>(cells: &Cells<U>, pass: &mut Pass<U>, i: u32, word: u
     ensures took { Takes U.lawful U.allowed pass.old (Builds (StoreOwn i word)) word pass.new }
     ensures sound { IsSound U.lawful U.allowed pass.new }
 {
-    let next = pass.next_version();
+    let at = pass.next_version().word_of(pass.own.shape, i);
+    let plan = Plan::StoreOwn { i, word };
     // No word names this version yet, so its words go in any order, and anew after an exchange that failed.
-    cells.store::<Brand>(&mut pass.seat, &pass.grip, next, i, word);
+    cells.store::<Brand>(&mut pass.seat, &pass.grip, at, word, &plan);
 }
 
 /// A store of 0 in the link of the caller's next version, which is published as the first of a new object,
@@ -118,10 +153,11 @@ pub fn publish<U: Usage>(cells: &Cells<U>, pass: &mut Pass<U>) -> Version
     ensures sound { IsSound U.lawful U.allowed pass.new }
 {
     let next = pass.next_version();
+    let at = next.word_of(pass.own.shape, LINK);
     // The link goes last: from here on others may come to this version, and no word of it changes any more.
-    cells.store::<Brand>(&mut pass.seat, &pass.grip, next, LINK, 0);
+    cells.store::<Brand>(&mut pass.seat, &pass.grip, at, 0, &Plan::Publish);
     // Counted before another own word is stored, which would else go into the version just published.
-    pass.used += 1;
+    pass.own.used += 1;
     pass.grip.take(Some(next));
     next
 }
@@ -153,20 +189,81 @@ pub fn link_store<U: Usage>(
     ensures sound { IsSound U.lawful U.allowed pass.new }
 {
     let next = pass.next_version();
+    let at = v.word_of(pass.own.shape, LINK);
+    let plan = Plan::LinkStore { v, want };
     // One exchange finds that there is no link, hangs the copy and makes the entry. By a load and then a store two
     // callers could both find none, and the later copy would take the link from the earlier: a lost store.
-    let word = cells.exchange::<Brand>(&mut pass.seat, &pass.grip, v, next, &want);
+    let word = cells.exchange::<Brand>(&mut pass.seat, &pass.grip, at, 0, next.name(), &plan);
     match Version::named(word) {
         None => {
             // As in publish: the place is taken before another own word is stored.
-            pass.used += 1;
+            pass.own.used += 1;
             pass.grip.take(Some(next));
             Ok(next)
         }
         Some(later) => {
             // Not counted: nobody has seen the copy, and the next attempt writes into the same place.
-            pass.grip.take(Some(later));
+            note(&mut pass.own, &mut pass.grip, false, v, LINK, Some(later));
             Err(later)
         }
     }
+}
+
+/// An exchange of the link of a version that the caller knows as from-space, from 0 to the caller's next version,
+/// which is written as a copy of it. It makes no entry. Where 0 is found, the copy is published and answered by `Ok`;
+/// it has the stamp of the version. Else `Err` has the next version of the object. Either is then held, and in hand.
+pub fn link_copy<U: Usage>(
+    cells: &Cells<U>,
+    pass: &mut Pass<U>,
+    v: Version,
+) -> Result<Version, Version>
+    requires cells { Fits pass.old cells.now }
+    requires look { IsLookable pass.old v }
+    requires known { known_from pass.old.part v ≡ true }
+    requires room { HasRoom pass.old.part }
+    requires hand { HasHand pass.old.part }
+    requires whole { IsWholeCopy pass.old.part (known_at pass.old v).contents }
+    ensures took { Takes U.lawful U.allowed pass.old
+        (Builds (LinkStore (known_at pass.old v) (copied pass.old (known_at pass.old v)) None))
+        (link_found result) pass.new }
+    ensures version { IfOk result (λ next. next ≡ next_version pass.old.part) }
+    ensures fit { IsFit pass.old.part.site.shape (done_limit pass.old.part) (known_at pass.old v) }
+    ensures sound { IsSound U.lawful U.allowed pass.new }
+{
+    let next = pass.next_version();
+    let at = v.word_of(pass.own.shape, LINK);
+    let plan = Plan::LinkCopy { v };
+    // From 0 alone, as in link_store: a copy behind a version that has a link would cut off what comes after it.
+    let word = cells.exchange::<Brand>(&mut pass.seat, &pass.grip, at, 0, next.name(), &plan);
+    match Version::named(word) {
+        None => {
+            pass.own.used += 1;
+            pass.grip.take(Some(next));
+            Ok(next)
+        }
+        Some(later) => {
+            note(&mut pass.own, &mut pass.grip, false, v, LINK, Some(later));
+            Err(later)
+        }
+    }
+}
+
+/// A store of the name of a held version in word `i` of the caller's own version, its link or a reference, at which its
+/// scan has stopped: the held one is a later version of the object that the word names, and not known as from-space.
+pub fn shorten<U: Usage>(cells: &Cells<U>, pass: &mut Pass<U>, v: Version, i: u32, u: Version)
+    requires cells { Fits pass.old cells.now }
+    requires own { IsOwnAt pass.old v }
+    requires word { is_naming i ≡ true }
+    requires held { IsHeldAt pass.old u }
+    requires known { known_from pass.old.part u ≡ false }
+    requires past { IsPast pass.old.part (own_at pass.old v) i (known_at pass.old u) }
+    ensures took { Takes U.lawful U.allowed pass.old
+        (Builds (Shorten (own_at pass.old v) i (known_at pass.old u)))
+        (naming_word (Some u)) pass.new }
+    ensures sound { IsSound U.lawful U.allowed pass.new }
+{
+    let at = v.word_of(pass.own.shape, i);
+    let plan = Plan::Shorten { v, i, u };
+    cells.store::<Brand>(&mut pass.seat, &pass.grip, at, u.name(), &plan);
+    pass.own.pass(v, i);
 }

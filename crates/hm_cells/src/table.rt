@@ -1,14 +1,13 @@
 //! The Table, its rule, and one step on it.
 ghost use Rattle.std.specs.Prelude.{◌≡◌, ◌<◌};
-ghost use Rattle.hm_shape.specs.Layout.{link_at, version_words};
 
 use crate::grip::Grip;
 use crate::knowledge::{Knowledge, Opening};
-use crate::want::Want;
+use crate::plan::Plan;
 use atomic_table::{Join, Play, Seat, Split, Table, TableRule};
 use hm_model::Usage;
 use hm_moves::Move;
-use hm_shape::{LINK, STAGE_AT, Shape, Version};
+use hm_shape::{STAGE_AT, Shape};
 use std::alloc::{AllocError, Global};
 use std::marker::{Brand, Model, PhantomData};
 
@@ -177,8 +176,7 @@ impl<U: Usage> Cells<U> {
     ghost use mathlib.Core.Option.{some};
     ghost use lib.ListN.{get_elem?};
     ghost use Rattle.std.specs.Prelude.{◌∷◌, [], ◌≤◌, IfOk, Some, length};
-    ghost use Rattle.hm_shape.specs.Versions.{IsVersionOf};
-    ghost use Rattle.hm_shape.specs.Words.{word_at, naming_word};
+    ghost use Rattle.hm_shape.specs.Words.{word_count};
     ghost use Rattle.hm_model.specs.History.{store_of, opening_of, starting_count};
     ghost use Rattle.hm_moves.specs.declared.part.Part.{Part};
     ghost use Rattle.hm_moves.specs.After.{view};
@@ -222,78 +220,72 @@ impl<U: Usage> Cells<U> {
         self.shape
     }
 
-    /// A load of word `i` of a version. Grip and want are for the pick alone.
+    /// A load of a word. Grip and plan are for the pick alone.
     pub(crate) fn load<J: Moving>(
         &self,
         seat: &mut Seat<(), Knowledge<U>>,
         _grip: &Grip<U>,
-        v: Version,
-        i: u32,
-        _want: &Want,
+        word: u64,
+        _plan: &Plan,
     ) -> u64
         requires own { seat.old.table_id ≡ self.now.table }
-        requires version { IsVersionOf self.now.site.shape v }
-        requires word { i < version_words }
+        requires word { word < word_count self.now.site.shape }
         requires ready { IsReady U.lawful U.allowed seat.old.me.0 J.picked J.place
-            (Loads J.picked (word_at self.now.site.shape v i)) }
+            (Loads J.picked word) }
         ensures own { seat.new.table_id ≡ seat.old.table_id }
         ensures slots { seat.new.me.1 ≡ seat.old.me.1 }
         ensures told { Learns U.lawful U.allowed J.picked J.place
             seat.old.me.0 result seat.new.me.0 }
     {
         let table = &self.table;
-        let word = v.word_of(self.shape, i) as usize;
-        table.shared.load::<Moves<J>>(seat, word)
+        table.shared.load::<Moves<J>>(seat, word as usize)
     }
 
-    /// A store of word `i` of a version. The grip is for the pick alone.
+    /// A store of a word. Grip and plan are for the pick alone.
     pub(crate) fn store<J: Moving>(
         &self,
         seat: &mut Seat<(), Knowledge<U>>,
         _grip: &Grip<U>,
-        v: Version,
-        i: u32,
+        word: u64,
         value: u64,
+        _plan: &Plan,
     )
         requires own { seat.old.table_id ≡ self.now.table }
-        requires version { IsVersionOf self.now.site.shape v }
-        requires word { i < version_words }
+        requires word { word < word_count self.now.site.shape }
         requires ready { IsReady U.lawful U.allowed seat.old.me.0 J.picked J.place
-            (Stores U.lawful U.allowed J.picked (word_at self.now.site.shape v i) value) }
+            (Stores U.lawful U.allowed J.picked word value) }
         ensures own { seat.new.table_id ≡ seat.old.table_id }
         ensures slots { seat.new.me.1 ≡ seat.old.me.1 }
         ensures told { Learns U.lawful U.allowed J.picked J.place
             seat.old.me.0 value seat.new.me.0 }
     {
         let table = &self.table;
-        let word = v.word_of(self.shape, i) as usize;
-        table.shared.store::<Moves<J>>(seat, word, value);
+        table.shared.store::<Moves<J>>(seat, word as usize, value);
     }
 
-    /// An exchange of the link of a version, from 0 to another version. Grip and want are for the pick alone.
+    /// An exchange of a word, from one number to another. Answers what it found. Grip and plan are for the pick alone.
     pub(crate) fn exchange<J: Moving>(
         &self,
         seat: &mut Seat<(), Knowledge<U>>,
         _grip: &Grip<U>,
-        v: Version,
-        next: Version,
-        _want: &Want,
+        word: u64,
+        from: u64,
+        to: u64,
+        _plan: &Plan,
     ) -> u64
         requires own { seat.old.table_id ≡ self.now.table }
-        requires version { IsVersionOf self.now.site.shape v }
+        requires word { word < word_count self.now.site.shape }
         requires ready { IsReady U.lawful U.allowed seat.old.me.0 J.picked J.place
-            (Exchanges J.picked (word_at self.now.site.shape v link_at) (naming_word (Some next))) }
+            (Exchanges J.picked word from to) }
         ensures own { seat.new.table_id ≡ seat.old.table_id }
         ensures slots { seat.new.me.1 ≡ seat.old.me.1 }
         ensures told { Learns U.lawful U.allowed J.picked J.place
             seat.old.me.0 result seat.new.me.0 }
     {
         let table = &self.table;
-        let word = v.word_of(self.shape, LINK) as usize;
-        // From 0 alone: a link that names a version stays, or the versions behind it would be cut off.
         table
             .shared
-            .compare_exchange::<Moves<J>>(seat, word, 0, next.name())
+            .compare_exchange::<Moves<J>>(seat, word as usize, from, to)
     }
 
     /// A load by which the seat's caller lets go of a version. The grip is for the pick alone.

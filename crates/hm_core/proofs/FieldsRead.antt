@@ -1,6 +1,6 @@
 -- What code reads of the fields is what the moment has that they tell.
 use Rattle.std.proofs.Common.{◌≡◌, ◌<◌, ℕ, List, length, get_or, ap, ◌∙◌, arith}
-use Rattle.hm_core.proofs.Words.{Row, HandState, no_hand, SeatState, no_seat, IsAwake, Moment, core_of, hand_at, no_row, own_part, own_view, row_at, seat_at, IsSound, get_or_default}
+use Rattle.hm_core.proofs.Words.{HandState, no_hand, SeatState, no_seat, IsAwake, Moment, core_of, hand_at, own_part, own_view, seat_at, IsSound, get_or_default}
 use Rattle.hm_core.proofs.Moments.{awake_below}
 
 -- an element that was read is the one at any default
@@ -30,7 +30,3 @@ module _ (a m : Moment) (same : a ≡ m) (sound : IsSound m) (q : ℕ)
   seat_read s e =
       other_read q s
       (let size = sound.seats_size in let low = awake_below m sound q awake in omega arith) e
-
-  pub row_read : (row : ℕ) (r : Row) → row < length m.rows → r ≡ get_or a.rows row r
-      → r ≡ row_at m.rows row
-  row_read row r l e = read_at a.rows m.rows row r no_row (ap (λ (z : Moment). z.rows) same) l e

@@ -9,7 +9,7 @@ use Rattle.hm_moves.specs.declared.part.Cycle.{Cycle}
 use Rattle.hm_moves.specs.declared.part.End.{End}
 use Rattle.hm_moves.specs.declared.part.Part.{Part}
 use Rattle.hm_moves.specs.declared.part.Seen.{Seen}
-use Rattle.hm_moves.specs.Cycles.{bared, cursor_after, is_before, is_first, mark_after}
+use Rattle.hm_moves.specs.Cycles.{bared, cursor_after, is_before, is_first, mark_after, met_after}
 use Rattle.hm_moves.specs.Decoding.{stage_in, roles_in}
 use Rattle.hm_moves.specs.Fresh.{fresh_cycle, fresh_roles}
 use Rattle.hm_moves.specs.Shifts.{clock_after, fresh_draft, nothing_written, readied, scan_ticked, seeing, without_masks}
@@ -51,7 +51,14 @@ abbrev pub no_cycle : Cycle
 no_cycle = record {
   clock = record { stage = stage_in 0; reply = None; replies = []; moves = 0 };
   ties = record { roles = fresh_roles; joined = false; join = None; done = 0 };
-  scan = record { masks = []; mark = false; cursor = 0; ends = []; bare = false };
+  scan = record {
+    masks = [];
+    mark = false;
+    cursor = 0;
+    ends = [];
+    bare = false;
+    met = None;
+  };
 }
 
 -- no starting objects
@@ -165,6 +172,7 @@ cycle_loaded q c of x = record c {
     cursor = if scans c.clock then 0 else c.scan.cursor;
     ends = [];
     bare = false;
+    met = None;
   };
 }
 
@@ -191,10 +199,10 @@ cycle_reused c roles = record c {
   scan = without_masks c.scan;
 }
 
--- a cycle with this mark and this cursor
-abbrev pub cycle_noted : Cycle → Bool → ℕ → Cycle
-cycle_noted c mark cursor =
-    record c { scan = record c.scan { mark = mark; cursor = cursor } }
+-- a cycle with this mark and this cursor, which has met this
+abbrev pub cycle_noted : Cycle → Bool → ℕ → Option Known → Cycle
+cycle_noted c mark cursor met =
+    record c { scan = record c.scan { mark = mark; cursor = cursor; met = met } }
 
 -- or bare or not
 abbrev pub cycle_bared : Cycle → Bool → Cycle
@@ -220,11 +228,11 @@ ending h ends = tracking h (cycle_ended h.cycle ends)
 abbrev pub hand_readied : Shape → ℕ → HandState → Act → ℕ → HandState
 hand_readied s q h act x = hand_of h (readied (part_by s q h) act x)
 
--- then with the mark and the cursor after the move
+-- then with mark, cursor and what its scan has met after the move
 abbrev pub hand_noted : Shape → HandState → Move → Option Known → HandState
 hand_noted s h m found =
     tracking h (cycle_noted h.cycle (mark_after (part_by s 0 h) m found)
-    (cursor_after (part_by s 0 h) m found))
+    (cursor_after (part_by s 0 h) m found) (met_after (part_by s 0 h) m found))
 
 -- then with what it found, published and let go
 abbrev pub hand_worked : HandState → Move → ℕ → Option Known → HandState

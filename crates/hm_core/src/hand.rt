@@ -261,15 +261,16 @@ impl Hand {
         self.written = [None; 16];
     }
 
-    // Mark and cursor after a move that found a version.
+    // Mark, cursor and what the scan has met after a move that found a version.
     fn note(&mut self, shape: Shape, m: &Move, found: Option<Known>)
         requires look { IsLookWord m.now.act }
         requires cursor { self.old.cycle.scan.cursor + 1 < 2 ^ 64 }
         ensures { self.new ≡ hand_noted shape self.old m.now found }
     {
         let passes = self.passes(shape, m, found);
+        let stops = self.stops(shape, m, found);
         let marks = !self.is_scan(m) && self.meets(shape, found);
-        self.track.note(marks, passes);
+        self.track.note(marks, passes, stops, found);
     }
 
     // What is found, published and let go.

@@ -18,7 +18,7 @@ impl Hand {
     ghost use Rattle.hm_moves.specs.declared.moving.Act.TheVariants.{Builds};
     ghost use Rattle.hm_moves.specs.declared.moving.Move.{Move};
     ghost use Rattle.hm_moves.specs.Allowed.{IsWordOf};
-    ghost use Rattle.hm_moves.specs.Cycles.{is_at_cursor as cursor_at, is_scan as part_scans, known_from, meets as part_meets, passes as part_passes};
+    ghost use Rattle.hm_moves.specs.Cycles.{is_at_cursor as cursor_at, is_scan as part_scans, known_from, meets as part_meets, passes as part_passes, stops as part_stops};
 
     // Whether it knows a version as from-space.
     pub(crate) fn knows_from(&self, shape: Shape, v: Version) -> bool
@@ -70,6 +70,17 @@ impl Hand {
         }
     }
 
+    // Whether a move stops at the cursor: a load of a scan that finds from-space there.
+    pub(crate) fn stops(&self, shape: Shape, m: &Move, found: Option<Known>) -> bool
+        requires { IsLookWord m.now.act }
+        ensures { result ≡ part_stops (part_by shape 0 self.now) m.now found m.now.act }
+    {
+        match m.act {
+            Act::Looks(look) => self.is_scan(m) && self.is_held_up(shape, &look, found),
+            Act::Builds(_) | Act::Ticks(_) | Act::Shifts(_) => false,
+        }
+    }
+
     // Whether a load of a scan is at the cursor, and finds nothing of from-space.
     fn goes_on(&self, shape: Shape, look: &Look, found: Option<Known>) -> bool
         requires { IsWordOf look.now }
@@ -77,11 +88,30 @@ impl Hand {
             && cursor_at (part_by shape 0 self.now) (looked_at look.now) (looked_word look.now)
             && not (part_meets (part_by shape 0 self.now) found)) }
     {
+        self.is_there(look) && !self.meets(shape, found)
+    }
+
+    // Whether a load of a scan is at the cursor, and finds from-space.
+    fn is_held_up(&self, shape: Shape, look: &Look, found: Option<Known>) -> bool
+        requires { IsWordOf look.now }
+        ensures { result ≡ (list_all is_some self.now.cycle.scan.masks
+            && cursor_at (part_by shape 0 self.now) (looked_at look.now) (looked_word look.now)
+            && part_meets (part_by shape 0 self.now) found) }
+    {
+        self.is_there(look) && self.meets(shape, found)
+    }
+
+    // Whether a load is at the cursor of a caller that has a mask of every caller.
+    fn is_there(&self, look: &Look) -> bool
+        requires { IsWordOf look.now }
+        ensures { (s : Shape) (q : ℕ) → result ≡ (list_all is_some self.now.cycle.scan.masks
+            && cursor_at (part_by s q self.now) (looked_at look.now) (looked_word look.now)) }
+    {
         if !self.has_masks() {
             return false;
         }
         let (version, i) = word_looked_at(look);
-        self.is_at_cursor(version, u64::from(i)) && !self.meets(shape, found)
+        self.is_at_cursor(version, u64::from(i))
     }
 
     // Whether the caller has a mask of every caller.

@@ -3,9 +3,10 @@
 ghost use Rattle.std.specs.Prelude.{◌≡◌, ◌+◌, ◌++◌, ◌<◌, ◌^◌, ◌==◌, ◌&&◌, ◌||◌, not, [], ◌∷◌, false, None, IfOk, OnErr, OnOk, is_some, slice_index_or, if◌then◌else◌};
 ghost use Rattle.std.specs.List.{list_all};
 ghost use Rattle.hm_moves.specs.Cycles.{gives_from as mask_gives_from, is_before};
-ghost use Rattle.hm_moves.specs.Decoding.{reply_in as reply_of_word, roles_in as roles_of_word, seen_word, stage_in};
+ghost use Rattle.hm_moves.specs.Decoding.{reply_in as reply_of_word, roles_in as roles_of_word, stage_in};
 
-use hm_moves::{End, Seen, Tick};
+use crate::ticking::seen_word;
+use hm_moves::{End, Known, Seen, Tick};
 use hm_shape::{Phase, Reply, Role, Roles, Shape, Stage};
 use std::alloc::{AllocError, Global};
 use std::marker::Model;
@@ -29,6 +30,8 @@ pub(crate) struct Track {
     cursor: u64,
     ends: Vec<End>,
     bare: bool,
+    /// The version of from-space at which its scan has stopped, if any.
+    met: Option<Known>,
 }
 
 impl Model for Track {
@@ -51,6 +54,7 @@ impl Model for Track {
         cursor = t.cursor;
         ends = t.ends.items;
         bare = t.bare;
+        met = t.met;
       };
     } };
 
@@ -89,6 +93,7 @@ impl Track {
             cursor: 0,
             ends: Vec::new(alloc),
             bare: false,
+            met: None,
         })
     }
 
@@ -219,8 +224,8 @@ impl Track {
         requires moves { self.old.clock.moves + 1 < 2 ^ 64 }
         ensures { self.new ≡ cycle_ticked self.old (MoveStage from to) found }
     {
-        if found == word_of(from) {
-            self.see(seen_in(word_of(to)));
+        if found == seen_word(from) {
+            self.see(seen_in(seen_word(to)));
             self.moves += 1;
         } else {
             self.see(seen_in(found));
@@ -232,7 +237,7 @@ impl Track {
         requires { stage.done < 2 ^ 30 }
         ensures { self.new ≡ cycle_seeing self.old stage }
     {
-        if word_of(stage) != word_of(self.stage) {
+        if seen_word(stage) != seen_word(self.stage) {
             self.drop_replies();
         }
         self.stage = stage;
@@ -258,6 +263,7 @@ impl Track {
         }
         self.ends.clear();
         self.bare = false;
+        self.met = None;
     }
 
     // The word is the mask of a caller.
@@ -272,7 +278,8 @@ impl Track {
 
     // A scan begins anew: a load of its own roles takes the mark away.
     fn begin_anew(&mut self, own: bool)
-        ensures { self.new ≡ cycle_noted self.old (self.old.scan.mark && not own) 0 }
+        ensures { self.new ≡ cycle_noted self.old (self.old.scan.mark && not own) 0
+            self.old.scan.met }
     {
         self.mark = self.mark && !own;
         self.cursor = 0;
@@ -312,17 +319,22 @@ impl Track {
         self.masks.fill(None);
         self.cursor = 0;
         self.bare = false;
+        self.met = None;
     }
 
-    /// It is marked, where it has met from-space, and its scan passes a field.
-    pub fn note(&mut self, met: bool, passed: bool)
+    /// It is marked, where it has met from-space, and its scan passes a field, or stops at what it found.
+    pub fn note(&mut self, marks: bool, passes: bool, stops: bool, found: Option<Known>)
         requires { self.old.scan.cursor + 1 < 2 ^ 64 }
-        ensures { self.new ≡ cycle_noted self.old (self.old.scan.mark || met)
-            (if passed then self.old.scan.cursor + 1 else self.old.scan.cursor) }
+        ensures { self.new ≡ cycle_noted self.old (self.old.scan.mark || marks)
+            (if passes then self.old.scan.cursor + 1 else self.old.scan.cursor)
+            (if passes then None else if stops then found else self.old.scan.met) }
     {
-        self.mark = self.mark || met;
-        if passed {
+        self.mark = self.mark || marks;
+        if passes {
             self.cursor += 1;
+            self.met = None;
+        } else if stops {
+            self.met = found;
         }
     }
 
@@ -348,19 +360,6 @@ impl Track {
     {
         self.ends.pop();
     }
-}
-
-// The word of a stage.
-fn word_of(stage: Seen) -> u64
-    requires { stage.done < 2 ^ 30 }
-    ensures { result ≡ seen_word stage }
-{
-    let stage = Stage {
-        number: stage.number,
-        done: stage.done,
-        phase: stage.phase,
-    };
-    stage.pack()
 }
 
 // The stage that a word says.

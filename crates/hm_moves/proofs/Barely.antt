@@ -27,16 +27,19 @@ field_naming (suc (suc (suc (suc zero)))) low = refl
 field_naming (suc (suc (suc (suc (suc f))))) low = absurd (omega arith)
 
 -- each of a list passes a test that all pass
-pub all_at : {A : Type 0} (f : A → Bool) (l : List A) (i : ℕ) (d : A) → i < length l → list_all f l ≡ true
+pub all_at : {A : Type 0} (f : A → Bool) (l : List A) (i : ℕ) (d : A) → i < length l → list_all f l
+    ≡ true
     → f (slice_index_or l i d) ≡ true
 all_at f [] i d low all = absurd (omega arith)
 all_at f (a ∷ l) zero d low all = (and_parts (f a) (list_all f l) all).0
-all_at f (a ∷ l) (suc i) d low all = all_at f l i d (omega arith) (and_parts (f a) (list_all f l) all).1
+all_at f (a ∷ l) (suc i) d low all = all_at f l i d (omega arith)
+    (and_parts (f a) (list_all f l) all).1
 
 -- a caller that has all masks has them in the state
 pub masks_shown : {U : Type 0} (s : Shape) (h : Heap) (moves : ℕ → ℕ) (x : State)
     (shows : ShowsHeap s h moves x)
-    (p : Part U) → ShowsPart s moves x p → has_masks p ≡ true → views.AllMasks x.shape x.masks p.number
+    (p : Part U) → ShowsPart s moves x p → has_masks p ≡ true → views.AllMasks x.shape x.masks
+    p.number
 masks_shown s h moves x shows p mine all q low =
     let below : q < p.site.shape.callers =
     let a = ap (λ z. z.callers) shows.shape in let b = ap (λ (z : Shape). z.callers) mine.shape in
@@ -44,7 +47,8 @@ masks_shown s h moves x shows p mine all q low =
     mine.scan.loaded q below
     ∙ all_at is_some p.cycle.scan.masks q None (let a = mine.scan.wide in omega arith) all
 
-module _ {U : Type 0} (s : Shape) (h : Heap) (moves : ℕ → ℕ) (x : State) (shows : ShowsHeap s h moves x)
+module _ {U : Type 0} (s : Shape) (h : Heap) (moves : ℕ → ℕ) (x : State)
+    (shows : ShowsHeap s h moves x)
     (rule : rounds.Good x) (placed : ArePlaced s h.index h.places.dead h.places.used) (p : Part U)
     (mine : ShowsPart s moves x p) (hands : AreIndexed s p.number h.index h.places p.hands)
     (low : p.number < s.callers) where
@@ -52,7 +56,8 @@ module _ {U : Type 0} (s : Shape) (h : Heap) (moves : ℕ → ℕ) (x : State) (
   pub held_clean : holds_from p ≡ false → (v : ℕ) → x.hands.held p.number v ≡ true
       → views.known_from x.shape x.masks p.number v ≡ false
   held_clean clean zero there =
-      let r = any_found (λ k. version_shown k.version == 0) p.hands.held (sym (mine.hands.held 0) ∙ there)
+      let r = any_found (λ k. version_shown k.version == 0) p.hands.held
+      (sym (mine.hands.held 0) ∙ there)
       in
       absurd (let e = eqb-true (version_shown r.0.version) 0 r.2 in omega arith)
   held_clean clean (suc v) there =
@@ -79,8 +84,10 @@ module _ {U : Type 0} (s : Shape) (h : Heap) (moves : ℕ → ℕ) (x : State) (
       (ap x.uses.used (sym is) ∙ live.is_used)))
       (cases_lt u (version_count s))
 
-  named_clean : HoldsClean h.words p → (v f u : ℕ) → views.Mine x p.number (suc v) → f < x.shape.fields
-      → x.versions.word (suc v) f ≡ suc u → views.known_from x.shape x.masks p.number (suc u) ≡ false
+  named_clean : HoldsClean h.words p → (v f u : ℕ) → views.Mine x p.number (suc v)
+      → f < x.shape.fields
+      → x.versions.word (suc v) f ≡ suc u → views.known_from x.shape x.masks p.number (suc u)
+      ≡ false
   named_clean clean v f u own narrow is =
       let r = mine_own s h moves x shows rule placed p mine hands low v own in
       let few : f < field_count = let a = ap (λ z. z.fields) shows.shape in omega arith in
@@ -98,10 +105,12 @@ module _ {U : Type 0} (s : Shape) (h : Heap) (moves : ℕ → ℕ) (x : State) (
     named = λ v f own narrow some. named_at v f (x.versions.word v f) own narrow some refl;
   }
     where
-      named_at : (v f w : ℕ) → views.Mine x p.number v → f < x.shape.fields → x.versions.word v f ≢ 0
+      named_at : (v f w : ℕ) → views.Mine x p.number v → f < x.shape.fields → x.versions.word v f
+          ≢ 0
           → x.versions.word v f ≡ w
           → views.known_from x.shape x.masks p.number (x.versions.word v f) ≡ false
-      named_at zero f w own narrow some is = absurd (both_ways (x.uses.used 0) shows.none own.is_used)
+      named_at zero f w own narrow some is =
+          absurd (both_ways (x.uses.used 0) shows.none own.is_used)
       named_at (suc v) f zero own narrow some is = absurd (some is)
       named_at (suc v) f (suc u) own narrow some is =
           ap (views.known_from x.shape x.masks p.number) is ∙ named_clean clean v f u own narrow is

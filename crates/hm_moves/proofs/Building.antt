@@ -30,7 +30,8 @@ use Rattle.hm_moves.proofs.Gone.{next_some, Acted}
 use Rattle.hm_moves.proofs.Words.{AreTrue, AreChained}
 use Rattle.hm_model.specs.History.{IsLegal}
 
-get_before : (l m : List Known) (i : ℕ) → i < length l → slice_get (l ++ m) i ≡ slice_get l i
+-- what a list has stays where more comes behind it
+pub get_before : (l m : List Known) (i : ℕ) → i < length l → slice_get (l ++ m) i ≡ slice_get l i
 get_before [] m i low = absurd (omega (arith, low))
 get_before (k ∷ ks) m zero low = refl
 get_before (k ∷ ks) m (suc i) low = get_before ks m i (omega (arith, low))
@@ -39,7 +40,8 @@ not_less : (a b : ℕ) → a ≡ b → nat_lt a b ≡ false
 not_less a b e = grind (arith, nat_tests, e)
 
 -- what holds of a heap, of a caller that takes a step, and of the state that they show
-pub record Ready {U : Type 0} (h : Heap) (seen : List Entry) (p : Part U) (moves : ℕ → ℕ) (x : State)
+pub record Ready {U : Type 0} (h : Heap) (seen : List Entry) (p : Part U) (moves : ℕ → ℕ)
+    (x : State)
     : Type 0 where
   pub wide : length h.words ≡ word_count p.site.shape
   pub placed : ArePlaced p.site.shape h.index h.places.dead h.places.used
@@ -124,7 +126,8 @@ module _ {U : Type 0} {h : Heap} {seen : List Entry} {p : Part U} {moves : ℕ �
   fields_back f low = subst (λ (z : state.Shape). f < z.fields) ready.shows.shape low
 
   -- what was passed is so where own versions are more, and the scan has come no further
-  pub passed_before : (n : Option Known) (i f : ℕ) (k : Known) → slice_get (p.hands.own ++ listed n) i
+  pub passed_before : (n : Option Known) (i f : ℕ) (k : Known) → slice_get (p.hands.own ++ listed n)
+      i
       ≡ Some k
       → f < field_count → i * field_count + f < p.cycle.scan.cursor
       → x.scan.passed me (version_shown k.version) f ≡ true
@@ -133,7 +136,8 @@ module _ {U : Type 0} {h : Heap} {seen : List Entry} {p : Part U} {moves : ℕ �
       let small : i < length p.hands.own = omega (arith, short, less) in
       ready.part.scan.passed i f k (sym (get_before p.hands.own (listed n) i small) ∙ get) low less
 
-  pub short_before : (n : Option Known) → p.cycle.scan.cursor ≤ length (p.hands.own ++ listed n) * field_count
+  pub short_before : (n : Option Known) → p.cycle.scan.cursor ≤ length (p.hands.own ++ listed n) *
+      field_count
   short_before n =
       let short = ready.part.scan.short in
       let more = length-append p.hands.own (listed n) in omega (arith, short, more)
@@ -145,7 +149,8 @@ module _ {U : Type 0} {h : Heap} {seen : List Entry} {p : Part U} {moves : ℕ �
 
   -- nothing more is there
   pub no_more : (n : Name) → IsThere (store_of h.history) n → IsThere (store_of (h.history ++ [])) n
-  no_more n there = subst (λ (l : List Entry). IsThere (store_of l) n) (sym (append-nil h.history)) there
+  no_more n there = subst (λ (l : List Entry). IsThere (store_of l) n) (sym (append-nil h.history))
+      there
 
   -- the next version stays where no place more is used
   abbrev pub next_in : ℕ → ℕ
@@ -162,7 +167,8 @@ module _ {U : Type 0} {h : Heap} {seen : List Entry} {p : Part U} {moves : ℕ �
   pub held_stays : (v : ℕ) → x.hands.held me v ≡ ((any_shown p.hands.held v || false) || false)
   held_stays v = ready.part.hands.held v ∙ or_twice (any_shown p.hands.held v)
 
-  pub held_one : (k : Known) → Contains p.hands.held k → x.hands.held me (version_shown k.version) ≡ true
+  pub held_one : (k : Known) → Contains p.hands.held k → x.hands.held me (version_shown k.version)
+      ≡ true
   held_one k there = ready.part.hands.held (version_shown k.version)
       ∙ any_contains (λ m. version_shown m.version == version_shown k.version) p.hands.held k there
       (eq-eqb (version_shown k.version) (version_shown k.version) refl)
@@ -185,7 +191,8 @@ module _ {U : Type 0} {h : Heap} {seen : List Entry} {p : Part U} {moves : ℕ �
       → IsSome (slice_index_or (slice_set p.draft.written i (Some word)) (field_word f) None)
       → x.hands.written me f ≡ true
   stored_else i word f low room ne some = written_stays f low room
-      (ap is_some (sym (get_or-set_other p.draft.written i (field_word f) (Some word) None ne)) ∙ some)
+      (ap is_some (sym (get_or-set_other p.draft.written i (field_word f) (Some word) None ne))
+      ∙ some)
 
   -- what a caller may look into is published
   pub look_there : (k : Known) → MayLookInto p k → IsPublished h.index k
@@ -203,7 +210,8 @@ module _ {U : Type 0} {h : Heap} {seen : List Entry} {p : Part U} {moves : ℕ �
 
 module _ {U : Type 0} {h : Heap} {seen : List Entry} {p : Part U} {moves : ℕ → ℕ} {x : State}
     (ready : Ready h seen p moves x) (by_scan : Bool) (o : Option Known) where
-  -- what is known of the step before a version is let go: which version it finds, and the state after it
+  -- what is known of the step before a version is let go: which version it finds, and the state
+  -- after it
   module _ (b : Build) (w : ℕ) (found : Option Known) (now : Heap) (uses : state.Uses)
       (versions : state.Versions)
       (store : state.Store) (scan : state.Scan) (hands : state.Hands) (bare : ℕ → Bool) where
@@ -223,58 +231,64 @@ module _ {U : Type 0} {h : Heap} {seen : List Entry} {p : Part U} {moves : ℕ �
     -- so much of that state makes it one that the caller shows
     pub acted_of : rule.Good turned_to → ShowsHeap p.site.shape now moves turned_to
         → scan.mark p.number ≡ mark_after p (move by_scan o b) found
-        → ((i f : ℕ) (k : Known) → slice_get (p.hands.own ++ listed new) i ≡ Some k → f < field_count
+        → ((i f : ℕ) (k : Known) → slice_get (p.hands.own ++ listed new) i ≡ Some k
+        → f < field_count
         → i * field_count + f < cursor_after p (move by_scan o b) found
         → scan.passed p.number (version_shown k.version) f ≡ true)
         → cursor_after p (move by_scan o b) found ≤ length (p.hands.own ++ listed new) * field_count
         → scan.ends ≡ x.scan.ends
-        → ((v : ℕ) → hands.held p.number v ≡ ((any_shown p.hands.held v || shown_as found v) || shown_as new
+        → ((v : ℕ) → hands.held p.number v
+        ≡ ((any_shown p.hands.held v || shown_as found v) || shown_as new
         v))
         → hands.next p.number ≡ next_shown (later p by_scan o b w found)
         → ((f : ℕ) → f < field_count → HasRoom (later p by_scan o b w found)
         → IsSome (slice_index_or (written_with p.draft.written (Builds b) new) (field_word f) None)
         → hands.written p.number f ≡ true)
-        → (p.cycle.scan.bare ≡ true → holds_from (later p by_scan o b w found) ≡ false → bare p.number ≡ true)
+        → (p.cycle.scan.bare ≡ true → holds_from (later p by_scan o b w found) ≡ false
+        → bare p.number ≡ true)
         → Acted (later p by_scan o b w found) now moves turned_to p.hands.held found new o
         (written_with p.draft.written (Builds b) new) p.cycle.scan.bare
-    acted_of rules_now shown marked passed short ended held_were next written_were bare_was = record {
-      rule = rules_now;
-      heap = shown;
-      clock = record {
-        seen = ready.part.clock.seen;
-        reply = ready.part.clock.reply;
-        wide = ready.part.clock.wide;
-        replies = ready.part.clock.replies;
-        moved = ready.part.clock.moved;
-      };
-      ties = record {
-        wide = ready.part.ties.wide;
-        roles = ready.part.ties.roles;
-        single = ready.part.ties.single;
-        join = ready.part.ties.join;
-        done = ready.part.ties.done;
-      };
-      scan = record {
-        wide = ready.part.scan.wide;
-        loaded = ready.part.scan.loaded;
-        from = ready.part.scan.from;
-        mark = marked;
-        passed = passed;
-        short = short;
-        ends = λ e there. ap (λ (z : ℕ → ℕ → ℕ → Bool). z p.number (name_shown e.name) e.rank) ended
-            ∙ ready.part.scan.ends e (subst (λ (l : List End). Contains l e) (append-nil p.cycle.scan.ends)
-            there);
-        bare = λ e. absurd (cc);
-        holds = λ e. absurd (cc);
-      };
-      held_were = held_were;
-      held_are = refl;
-      next = next;
-      written_were = written_were;
-      written_are = refl;
-      bare_was = bare_was;
-      bare_is = refl;
-    }
+    acted_of rules_now shown marked passed short ended held_were next written_were bare_was =
+        record {
+          rule = rules_now;
+          heap = shown;
+          clock = record {
+            seen = ready.part.clock.seen;
+            reply = ready.part.clock.reply;
+            wide = ready.part.clock.wide;
+            replies = ready.part.clock.replies;
+            moved = ready.part.clock.moved;
+          };
+          ties = record {
+            wide = ready.part.ties.wide;
+            roles = ready.part.ties.roles;
+            single = ready.part.ties.single;
+            join = ready.part.ties.join;
+            done = ready.part.ties.done;
+          };
+          scan = record {
+            wide = ready.part.scan.wide;
+            loaded = ready.part.scan.loaded;
+            from = ready.part.scan.from;
+            mark = marked;
+            passed = passed;
+            short = short;
+            ends = λ e there. ap (λ (z : ℕ → ℕ → ℕ → Bool). z p.number (name_shown e.name) e.rank)
+                ended
+                ∙ ready.part.scan.ends e
+                (subst (λ (l : List End). Contains l e) (append-nil p.cycle.scan.ends)
+                there);
+            bare = λ e. absurd (cc);
+            holds = λ e. absurd (cc);
+          };
+          held_were = held_were;
+          held_are = refl;
+          next = next;
+          written_were = written_were;
+          written_are = refl;
+          bare_was = bare_was;
+          bare_is = refl;
+        }
 
   -- nothing that is held, or comes to be so, is known as from-space then
   module _ (b : Build) (w : ℕ) (found : Option Known)
@@ -322,7 +336,8 @@ module _ {U : Type 0} {h : Heap} {seen : List Entry} {p : Part U} {moves : ℕ �
 
     -- so the caller may be said to be bare
     pub may_be_bare_then : (t : steps.Step) → ends_bareness t ≡ false
-        → ((v : ℕ) → (turned.after x p.number (bare_then p (later p by_scan o b w found)) t).hands.held
+        → ((v : ℕ)
+        → (turned.after x p.number (bare_then p (later p by_scan o b w found)) t).hands.held
         p.number v
         ≡ ((any_shown p.hands.held v || shown_as found v) || shown_as (built_version b w) v))
         → (turned.after x p.number (bare_then p (later p by_scan o b w found)) t).masks ≡ x.masks
@@ -338,7 +353,8 @@ module _ {U : Type 0} {h : Heap} {seen : List Entry} {p : Part U} {moves : ℕ �
   -- the state after a step that builds, before a version is let go
   pub record Turned (b : Build) (w : ℕ) : Type 0 where
     pub now : State
-    pub acted : Acted (later p by_scan o b w (build_finds h.index b w)) (heap_after h p (Builds b) w) moves
+    pub acted : Acted (later p by_scan o b w (build_finds h.index b w))
+        (heap_after h p (Builds b) w) moves
         now p.hands.held
         (build_finds h.index b w) (built_version b w) o
         (written_with p.draft.written (Builds b) (built_version b w)) p.cycle.scan.bare

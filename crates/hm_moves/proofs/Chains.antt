@@ -1,14 +1,17 @@
--- Chains after a store into another word, after a create, and after a version is hung on the last one.
+-- Chains after a store into another word, after a create, and after a version is hung on the last
+-- one.
 use Rattle.std.proofs.Common.{◌≡◌, ◌≢◌, ◌+◌, ℕ, zero, suc, List, Some, None, refl, sym, ap, ◌∙◌, subst, arith, ⊎_elim}
 use Rattle.hm_moves.proofs.Words.{ℕ_discrete, dite, Shape, naming_word, Name, PlainStore, contents_of, IsThere, there_contents, Known, Index, IsPublished, with_one, link_of, IsLinked, AreChained}
 use Rattle.hm_moves.proofs.Placed.{published_here, published_either, published_once, follows_more}
 
 -- the links of published versions are the same
 abbrev pub SameLinks : Shape → List ℕ → List ℕ → Index → Type 0
-SameLinks s words words' index = (k : Known) → IsPublished index k → link_of s words' k ≡ link_of s words k
+SameLinks s words words' index = (k : Known) → IsPublished index k → link_of s words' k
+    ≡ link_of s words k
 
 pub chained_beside : (s : Shape) (words words' : List ℕ) (index : Index) (store : PlainStore)
-    → SameLinks s words words' index → AreChained s words index store → AreChained s words' index store
+    → SameLinks s words words' index → AreChained s words index store → AreChained s words' index
+    store
 chained_beside s words words' index store same h = record {
   there = h.there;
   link = λ k p. subst (IsLinked index store k) (sym (same k p)) (h.link k p);
@@ -17,11 +20,13 @@ chained_beside s words words' index store same h = record {
 }
 
 -- a link where one version more is published and the contents of the object stay
-linked_more : (index : Index) (store store' : PlainStore) (k m : Known) (x : ℕ) → index k.version.0 ≡ None
+linked_more : (index : Index) (store store' : PlainStore) (k m : Known) (x : ℕ) → index k.version.0
+    ≡ None
     → (contents_of store m.name ≡ Some m.contents → contents_of store' m.name ≡ Some m.contents)
     → IsLinked index store m x → IsLinked (with_one index k) store' m x
 linked_more index store store' k m zero none f h = f h
-linked_more index store store' k m (suc v) none f h = (h.0, h.1, follows_more index k m h.0 none h.2)
+linked_more index store store' k m (suc v) none f h =
+    (h.0, h.1, follows_more index k m h.0 none h.2)
 
 module _ (s : Shape) (words words' : List ℕ) (index : Index) (store store' : PlainStore) (k : Known)
     (none : index k.version.0 ≡ None) (h : AreChained s words index store)
@@ -31,7 +36,8 @@ module _ (s : Shape) (words words' : List ℕ) (index : Index) (store store' : P
   Old m = (m.version.0 ≢ k.version.0) × IsPublished index m
 
   -- by cases of a published version
-  either : (P : Known → Type 0) (m : Known) → IsPublished (with_one index k) m → P k → (Old m → P m) → P m
+  either : (P : Known → Type 0) (m : Known) → IsPublished (with_one index k) m → P k → (Old m → P m)
+      → P m
   either P m p new old = ⊎_elim (λ (t : k ≡ m). subst P t new) old (published_either index k m p)
 
   there_after : (m : Known) → IsPublished (with_one index k) m → IsThere store' m.name
@@ -49,12 +55,14 @@ module _ (s : Shape) (words words' : List ℕ) (index : Index) (store store' : P
     another : (m : Known) → IsPublished index m → m.name ≢ k.name
     another m p e =
         let t = h.there m p in
-        let o : contents_of store m.name ≡ None = ap (contents_of store) e ∙ new in let bad = rw o at t in cc
+        let o : contents_of store m.name ≡ None = ap (contents_of store) e ∙ new in
+        let bad = rw o at t in cc
 
     pub chained_created : AreChained s words' (with_one index k) store'
     chained_created = record {
       there = there_after;
-      link = λ m p. either (λ (x : Known). IsLinked (with_one index k) store' x (link_of s words' x)) m p
+      link = λ m p. either
+          (λ (x : Known). IsLinked (with_one index k) store' x (link_of s words' x)) m p
           own_link
           (λ t. subst (IsLinked (with_one index k) store' m) (sym (same m t.1))
           (linked_more index store store' k m (link_of s words m) none (stays m) (h.link m t.1)));
@@ -85,12 +93,14 @@ module _ (s : Shape) (words words' : List ℕ) (index : Index) (store store' : P
       (name : k.name ≡ at.name) (rank : k.rank ≡ at.rank + 1)
       (others : (n : Name) → at.name ≢ n → contents_of store' n ≡ contents_of store n) where
     -- a last version of the object is the one that it was hung on
-    only_last : (m : Known) → IsPublished index m → m.name ≡ at.name → link_of s words m ≡ 0 → m ≡ at
+    only_last : (m : Known) → IsPublished index m → m.name ≡ at.name → link_of s words m ≡ 0 → m
+        ≡ at
     only_last m p e z =
         grind (arith, h.top at m there p e last, h.top m at p there, h.apart at m there p e)
 
     -- of versions from before, only that one is no longer the last
-    still_last : (m : Known) → IsPublished index m → m.version.0 ≢ at.version.0 → link_of s words' m ≡ 0
+    still_last : (m : Known) → IsPublished index m → m.version.0 ≢ at.version.0 → link_of s words' m
+        ≡ 0
         → at.name ≢ m.name
     still_last m p n z e =
         n (ap (λ (x : Known). x.version.0) (only_last m p (sym e) (sym (same m p n) ∙ z)))
@@ -102,8 +112,11 @@ module _ (s : Shape) (words words' : List ℕ) (index : Index) (store store' : P
 
     hung_link : (x : ℕ) → x ≡ naming_word (Some k.version) → IsLinked (with_one index k) store' at x
     hung_link zero e = absurd (omega arith)
-    hung_link (suc v) e =
-        (k, omega arith, record { published = published_here index k; same = name; rank = omega arith })
+    hung_link (suc v) e = (
+      k,
+      omega arith,
+      record { published = published_here index k; same = name; rank = omega arith },
+    )
 
     old_linked : (m : Known) → Old m → IsLinked (with_one index k) store' m (link_of s words' m)
     old_linked m t = dite (ℕ_discrete m.version.0 at.version.0)
@@ -115,7 +128,8 @@ module _ (s : Shape) (words words' : List ℕ) (index : Index) (store store' : P
     pub chained_hung : AreChained s words' (with_one index k) store'
     chained_hung = record {
       there = there_after;
-      link = λ m p. either (λ (x : Known). IsLinked (with_one index k) store' x (link_of s words' x)) m p
+      link = λ m p. either
+          (λ (x : Known). IsLinked (with_one index k) store' x (link_of s words' x)) m p
           own_link
           (old_linked m);
       top = λ m n p q e z. dite (ℕ_discrete m.version.0 at.version.0)

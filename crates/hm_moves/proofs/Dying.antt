@@ -60,7 +60,8 @@ naming_reference i low = grind (arith, common_steps, nat_tests)
 
 -- a word refers as before, where it names no version that dies
 refers_without : (dies : ℕ → Bool) (index : Index) (w : ℕ) (r : Option Name)
-    → ((m : Known) → IsPublished index m → w ≡ naming_word (Some m.version) → dies m.version.0 ≡ false)
+    → ((m : Known) → IsPublished index m → w ≡ naming_word (Some m.version) → dies m.version.0
+    ≡ false)
     → Refers index w r → Refers (index_without dies index) w r
 refers_without dies index w None lives h = h
 refers_without dies index w (Some n) lives h = (
@@ -77,7 +78,8 @@ module _ (s : Shape) (words : List ℕ) (index : Index) (dies : ℕ → Bool)
       → HasContents s (index_without dies index) words k
   contents_without k stays h = record {
     stamp = h.stamp;
-    refs = λ i low. refers_without dies index (words_at s words k (2 + i)) (reference_at k.contents i)
+    refs = λ i low. refers_without dies index (words_at s words k (2 + i))
+        (reference_at k.contents i)
         (λ m there e. none k m (2 + i) stays there (naming_reference i low) e) (h.refs i low);
     numbers = h.numbers;
   }
@@ -89,16 +91,19 @@ module _ (s : Shape) (words : List ℕ) (index : Index) (dies : ℕ → Bool)
       contents_without k stays (true_before k stays.published)
 
   -- a version that stays is linked as before
-  linked_without : (store : PlainStore) (k : Known) → Stays dies index k → (x : ℕ) → link_of s words k ≡ x
+  linked_without : (store : PlainStore) (k : Known) → Stays dies index k → (x : ℕ) → link_of s words
+      k ≡ x
       → IsLinked index store k x → IsLinked (index_without dies index) store k x
   linked_without store k stays zero e h = h
   linked_without store k stays (suc v) e h =
-      let is : link_of s words k ≡ naming_word (Some h.0.version) = e ∙ (let n = h.1 in omega arith) in
+      let is : link_of s words k ≡ naming_word (Some h.0.version) = e
+      ∙ (let n = h.1 in omega arith) in
       let lives = none k h.0 0 stays h.2.published refl is in (
         h.0,
         h.1,
         record {
-          published = stays_published dies index h.0 record { published = h.2.published; lives = lives };
+          published = stays_published dies index h.0
+              record { published = h.2.published; lives = lives };
           same = h.2.same;
           rank = h.2.rank;
         },
@@ -112,21 +117,28 @@ module _ (s : Shape) (words : List ℕ) (index : Index) (dies : ℕ → Bool)
       λ k there. (published_stays dies index k there).published in
       record {
         there = λ k p. h.there k (was k p);
-        link = λ k p. linked_without store k (published_stays dies index k p) (link_of s words k) refl
+        link = λ k p. linked_without store k (published_stays dies index k p) (link_of s words k)
+            refl
             (h.link k (was k p));
         top = λ k m p q e z. h.top k m (was k p) (was m q) e z;
         apart = λ k m p q e z. h.apart k m (was k p) (was m q) e z;
       }
 
 -- the links behind a version that stays lead where they led
-pub links_without : (s : Shape) (h : Heap) (dies : ℕ → Bool) → NoneNamed s h.words h.index dies → (n : ℕ)
+pub links_without : (s : Shape) (h : Heap) (dies : ℕ → Bool) → NoneNamed s h.words h.index dies
+    → (n : ℕ)
     → (k last : Known) → Stays dies h.index k → Links s h n k last
     → Links s (record h { index = index_without dies h.index }) n k last
 links_without s h dies none zero k last stays l = l
 links_without s h dies none (suc n) k last stays l =
     let next : Stays dies h.index l.0 =
-    record { published = l.1; lives = none k l.0 0 stays l.1 refl l.2 } in
-    (l.0, stays_published dies h.index l.0 next, l.2, links_without s h dies none n l.0 last next l.3)
+    record { published = l.1; lives = none k l.0 0 stays l.1 refl l.2 } in (
+      l.0,
+      stays_published dies h.index l.0 next,
+      l.2,
+      links_without s h dies none n l.0 last next
+          l.3,
+    )
 
 -- where rows die their places still count as used, more rows are dead, and all else stays
 pub placed_still : (s : Shape) (index : Index) (dies dead more : ℕ → Bool) → DieByRows s dies more
@@ -151,7 +163,8 @@ placed_still s index dies dead more rows used h = record {
 -- and dead rows may be emptied
 pub placed_freed : (s : Shape) (index : Index) (dead freed : ℕ → Bool) (used : ℕ → ℕ)
     → ((row : ℕ) → freed row ≡ true → dead row ≡ true) → ArePlaced s index dead used
-    → ArePlaced s index (λ row. dead row && not (freed row)) (λ row. if freed row then 0 else used row)
+    → ArePlaced s index (λ row. dead row && not (freed row))
+    (λ row. if freed row then 0 else used row)
 placed_freed s index dead freed used was h = record {
   numbered = h.numbered;
   fits = h.fits;
@@ -179,7 +192,8 @@ ranked_still s index dies ends places h = record {
 }
 
 -- the limit on ranks grows with the cycles that are done, so what fits does so later
-pub fits_later : (s : Shape) (done later : ℕ) (k : Known) → done ≤ later → IsFit s done k → IsFit s later k
+pub fits_later : (s : Shape) (done later : ℕ) (k : Known) → done ≤ later → IsFit s done k
+    → IsFit s later k
 fits_later s done later k more fit =
     let low : done + 1 ≤ later + 1 = omega arith in
     let grows : rank_limit s done ≤ rank_limit s later = mul-le-mul_left (version_count s) low in
@@ -189,7 +203,8 @@ fits_later s done later k more fit =
 pub freed_once : (versions made freed used : ℕ) → used ≤ versions → made ≤ versions * freed + used
     → made ≤ versions * (freed + 1) + 0
 freed_once versions made freed used full low =
-    let more : versions * (freed + 1) ≡ versions * freed + versions = omega (arith, mul-suc versions freed) in
+    let more : versions * (freed + 1) ≡ versions * freed + versions = omega
+    (arith, mul-suc versions freed) in
     omega arith
 
 -- a region that is kept is not From
@@ -236,7 +251,8 @@ module _ (s : Shape) (q : ℕ) (index : Index) where
   }
 
   -- and what is its own still was so before
-  pub own_was : (dies : ℕ → Bool) (k : Known) → IsOwn s q (index_without dies index) k → IsOwn s q index k
+  pub own_was : (dies : ℕ → Bool) (k : Known) → IsOwn s q (index_without dies index) k
+      → IsOwn s q index k
   own_was dies k own = record {
     published = (published_stays dies index k own.published).published;
     region = own.region;
@@ -255,13 +271,16 @@ from_rows ends s places row i low small =
     ap (λ (r : ℕ). ends && is_from (places.role r)) (row_in_place s row i small)
 
 -- the rows of its own are kept, so none of them dies
-own_lives : (ends : Bool) (s : Shape) (places : Places) (k : Known)
-    → is_kept (places.role (row_in s k.version)) ≡ true → dies_from ends s places k.version.0 ≡ false
+pub own_lives : (ends : Bool) (s : Shape) (places : Places) (k : Known)
+    → is_kept (places.role (row_in s k.version)) ≡ true → dies_from ends s places k.version.0
+    ≡ false
 own_lives ends s places k kept =
     let no = kept_not_from (places.role (row_in s k.version)) kept in grind arith
 
--- the hands of a caller that holds none that dies stay, with the dead ones among what it left behind
-pub hands_still : (s : Shape) (q : ℕ) (index : Index) (places : Places) (ends : Bool) (hands : Hands)
+-- the hands of a caller that holds none that dies stay, with the dead ones among what it left
+-- behind
+pub hands_still : (s : Shape) (q : ℕ) (index : Index) (places : Places) (ends : Bool)
+    (hands : Hands)
     → NoneDies (dies_from ends s places) hands.held → AreIndexed s q index places hands
     → AreIndexed s q (without_from ends s places index) (with_dead ends places) hands
 hands_still s q index places ends hands held h =
@@ -275,7 +294,8 @@ hands_still s q index places ends hands held h =
       given = h.given;
       alive = λ k there lives.
           let both = dead_parts (places.dead (row_in s k.version)) (dies k.version.0) lives in
-          stays_published dies index k record { published = h.alive k there both.0; lives = both.1 };
+          stays_published dies index k
+          record { published = h.alive k there both.0; lives = both.1 };
       all = λ k mine. h.all k (own_was s q index dies k mine);
       once = h.once;
     }
@@ -290,8 +310,10 @@ ended s h ends words history = record {
 }
 
 -- published versions lie in the used places of the rows that are not dead
-pub placed_ended : (s : Shape) (h : Heap) (ends : Bool) → ArePlaced s h.index h.places.dead h.places.used
-    → ArePlaced s (without_from ends s h.places h.index) (with_dead ends h.places).dead h.places.used
+pub placed_ended : (s : Shape) (h : Heap) (ends : Bool) → ArePlaced s h.index h.places.dead
+    h.places.used
+    → ArePlaced s (without_from ends s h.places h.index) (with_dead ends h.places).dead
+    h.places.used
 placed_ended s h ends placed =
     placed_still s h.index (dies_from ends s h.places) h.places.dead
     (λ row. ends && is_from (h.places.role row)) (from_rows ends s h.places) h.places.used placed

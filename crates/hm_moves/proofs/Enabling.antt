@@ -5,7 +5,7 @@ use Rattle.hm_moves.proofs.Words.{LinkStore, Move, AreKnown, IsKnownField, IsGiv
 use Rattle.hm_moves.proofs.Histories.{come_now}
 use Rattle.hm_moves.proofs.Heaps.{known_there}
 use Rattle.hm_moves.proofs.Held.{some_more}
-use Rattle.std.proofs.Common.{◌≡◌, ◌∙◌, ◌&&◌, true, ap, refl}
+use Rattle.std.proofs.Common.{◌≡◌, ◌∙◌, ◌&&◌, slice_index, true, ap, refl}
 use Rattle.hm_shape.specs.declared.reply.ReplyKind.{ReplyKind}
 use Rattle.hm_shape.specs.declared.reply.ReplyKind.TheVariants.{Joined, Clean, Dirty}
 use Rattle.hm_shape.specs.declared.stage.Phase.{Phase}
@@ -13,9 +13,10 @@ use Rattle.hm_shape.specs.declared.stage.Phase.TheVariants.{Idle, Join, First, S
 use Rattle.hm_moves.specs.declared.moving.Tick.{Tick}
 use Rattle.hm_moves.specs.declared.moving.Tick.TheVariants.{LoadStage, MoveStage, LoadReply, StoreReply}
 use Rattle.hm_moves.specs.Cycles.{is_first, is_open, is_scanning}
-use Rattle.hm_moves.specs.Allowed.{MayReply, MayTick}
+use Rattle.hm_moves.specs.Allowed.{IsPast, MayReply, MayTick}
 use Rattle.hm_moves.proofs.Words.{HoldsClean, IsLaterThan, Shorten, Ticks, Shifts}
 use Rattle.hm_moves.proofs.Clean.{bare_clean}
+use Rattle.hm_moves.proofs.Meeting.{at_cursor, cursor_word, word_same}
 
 -- what is known by one reading is known by a wider one
 module _ (known wider : Name → Type 0) (f : (n : Name) → known n → wider n) where
@@ -47,7 +48,8 @@ module _ (known wider : Name → Type 0) (f : (n : Name) → known n → wider n
     turns_wider k x (Create q n refs numbers) h = h
     turns_wider k x (Fetch q n answer) h = h
     turns_wider k x (Store q n field) h = (h.0, field_wider field h.1, h.2)
-    turns_wider k x (StoreIf q n stamp refs numbers Stored) h = (h.0, given_wider refs numbers h.1, h.2, h.3)
+    turns_wider k x (StoreIf q n stamp refs numbers Stored) h =
+        (h.0, given_wider refs numbers h.1, h.2, h.3)
     turns_wider k x (StoreIf q n stamp refs numbers (Changed now)) h = h
 
     turns_by_wider : (k : Known) (x : Contents) (o : Option Entry) → TurnsBy known p k x o
@@ -67,13 +69,12 @@ module _ (known wider : Name → Type 0) (f : (n : Name) → known n → wider n
     }
 
     module _ (make may : Entry → Type 0) (g : (e : Entry) → make e → may e) (clean truly : Type 0)
-        (c : is_scanning p ≡ true → clean → truly) (later : Known → ℕ → Known → Type 0) where
-      -- no call shortens yet
-      abbrev none : Known → ℕ → Known → Type 0
-      none at i target = ⊥
-
-      reply_wider : (phase : Phase) (kind : ReplyKind) → p.cycle.clock.stage.phase ≡ phase → is_open p ≡ true
-          → MayReply known make clean none p phase kind → MayReply wider may truly later p phase kind
+        (c : is_scanning p ≡ true → clean → truly) (past later : Known → ℕ → Known → Type 0)
+        (l : (at : Known) (i : ℕ) (target : Known) → past at i target → later at i target) where
+      reply_wider : (phase : Phase) (kind : ReplyKind) → p.cycle.clock.stage.phase ≡ phase
+          → is_open p ≡ true
+          → MayReply known make clean past p phase kind
+          → MayReply wider may truly later p phase kind
       reply_wider Idle kind at opened h = absurd h
       reply_wider Join Joined at opened h = h
       reply_wider Join Clean at opened h = absurd h
@@ -86,7 +87,8 @@ module _ (known wider : Name → Type 0) (f : (n : Name) → known n → wider n
       reply_wider Second Clean at opened h = h
       reply_wider Second Dirty at opened h = h
 
-      tick_wider : (t : Tick) → MayTick known make clean none p t → MayTick wider may truly later p t
+      tick_wider : (t : Tick) → MayTick known make clean past p t
+          → MayTick wider may truly later p t
       tick_wider LoadStage h = h
       tick_wider (MoveStage from to) h = h
       tick_wider (LoadReply of) h = h
@@ -96,7 +98,8 @@ module _ (known wider : Name → Type 0) (f : (n : Name) → known n → wider n
         kind = reply_wider p.cycle.clock.stage.phase reply.kind refl h.open_yet h.kind;
       }
 
-      pub take_wider : (act : Act) → MayTake known make clean none p act → MayTake wider may truly later p act
+      pub take_wider : (act : Act) → MayTake known make clean past p act
+          → MayTake wider may truly later p act
       take_wider (Looks l) h = record {
         look = h.look;
         word = h.word;
@@ -116,29 +119,59 @@ module _ (known wider : Name → Type 0) (f : (n : Name) → known n → wider n
         turns = turns_by_wider at k.contents o h.turns;
         may = some_more make may g o h.may;
       }
-      take_wider (Builds (Shorten at i target)) h = absurd h.later
+      take_wider (Builds (Shorten at i target)) h = record {
+        own = h.own;
+        word = h.word;
+        held = h.held;
+        kept = h.kept;
+        later = l at i target h.later;
+      }
       take_wider (Ticks t) h = tick_wider t h
       take_wider (Shifts f) h = h
 
-module _ {U : Type 0} (lawful : U → PlainStore → Type 0) (allowed : U → PlainStore → Entry → Type 0) where
+module _ {U : Type 0} (lawful : U → PlainStore → Type 0)
+    (allowed : U → PlainStore → Entry → Type 0) where
+  -- what a caller knows to be later than what a word of its own names is later
+  past_later : (c : Core U) (id place : ℕ) (v : View U) (p : Part U) → Good lawful allowed p.site c
+      → Carries c.views id place v p → (k : Known) (i : ℕ) (target : Known) → IsPast p k i target
+      → IsLaterThan p.site.shape c.heap k i target
+  past_later c id place v p good at k i target past =
+      let met = good.met id place v p at past.was past.met in
+      let here = at_cursor p k i past.cursor in
+      let one : Some met.at ≡ Some here.0 = sym met.there ∙ here.1 in
+      let same : met.at ≡ here.0 = cc in
+      record {
+        was = past.was;
+        published = met.published;
+        named = ap (slice_index c.heap.words)
+            (word_same p.site.shape k.version met.at.version i (cursor_word p)
+            (sym (ap (λ (z : Known). z.version.0) same ∙ here.2)) here.3) ∙ met.named;
+        same = past.same;
+        rank = past.rank;
+      }
+
   own_lawful : (c : Core U) (id place : ℕ) (v : View U) (p : Part U) (m : Move)
-      → Good lawful allowed p.site c → Carries c.views id place v p → Enabled lawful allowed v.seen p m
+      → Good lawful allowed p.site c → Carries c.views id place v p → Enabled lawful allowed v.seen
+      p m
       → IsLawfulMove lawful allowed c.heap p m
   own_lawful c id place v p m good at may =
       let mine = good.parts id place v p at in
       let store : PlainStore = store_of c.heap.history in
-      let make : Entry → Type 0 = MayMake (lawful p.site.usage) (allowed p.site.usage) v.seen p.number in
+      let make : Entry → Type 0 = MayMake (lawful p.site.usage) (allowed p.site.usage) v.seen
+      p.number in
       let now : Entry → Type 0 = λ e. Stands store e → allowed p.site.usage store e in
       let g : (e : Entry) → make e → now e = λ e made stands.
-      (come_now (lawful p.site.usage) (allowed p.site.usage) p.site.start p.number p.calls.mine c.heap.history
+      (come_now (lawful p.site.usage) (allowed p.site.usage) p.site.start p.number p.calls.mine
+      c.heap.history
       v.seen e
       (good.seen id v at.seat) mine.calls good.heap.history made stands).entry in
       record {
         act = take_wider (IsKnownName p) (IsThere store)
-            (known_there lawful allowed c.heap v.seen p good.heap mine) p make now g (p.cycle.scan.bare ≡ true)
+            (known_there lawful allowed c.heap v.seen p good.heap mine) p make now g
+            (p.cycle.scan.bare ≡ true)
             (HoldsClean c.heap.words p)
-            (bare_clean lawful allowed c id place v p good at)
-            (IsLaterThan p.site.shape c.heap) m.act may.act;
+            (bare_clean lawful allowed c id place v p good at) (IsPast p)
+            (IsLaterThan p.site.shape c.heap) (past_later c id place v p good at) m.act may.act;
         holds = may.holds;
         let_go = may.let_go;
       }
@@ -149,4 +182,5 @@ module _ {U : Type 0} (lawful : U → PlainStore → Type 0) (allowed : U → Pl
       → IsLawfulMove lawful allowed c.heap p m
   enabled_lawful g c id place v p m good at may =
       own_lawful c id place v p m
-      (subst (λ (z : Site U). Good lawful allowed z c) (sym (good.parts id place v p at).site) good) at may
+      (subst (λ (z : Site U). Good lawful allowed z c) (sym (good.parts id place v p at).site) good)
+      at may

@@ -13,11 +13,13 @@ module _ (s : Shape) (h : Heap) (chains : KeepsChains s h) (ranks : KeepsRanks s
       → link_of s h.words k ≡ naming_word (Some next.version) → k.rank < next.rank
   rises k next is there link = go (link_of s h.words k) (chains.links k is) link
     where
-      go : (w : ℕ) → IsForward h.index k w → w ≡ naming_word (Some next.version) → k.rank < next.rank
+      go : (w : ℕ) → IsForward h.index k w → w ≡ naming_word (Some next.version)
+          → k.rank < next.rank
       go zero f e = absurd (omega arith)
       go (suc v) f e =
           subst (λ (m : Known). k.rank < m.rank)
-          (published_once h.index next f.0 there f.2.published (let n = f.1 in omega arith)) f.2.rank
+          (published_once h.index next f.0 there f.2.published (let n = f.1 in omega arith))
+          f.2.rank
 
   -- so a version that n links lead to has a rank greater by n at least
   climbs : (n : ℕ) (k last : Known) → IsPublished h.index k → Links s h n k last

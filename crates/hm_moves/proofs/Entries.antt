@@ -8,9 +8,11 @@ changed_here : (f : Contents → Contents) (store : PlainStore) (n m : Name) (x 
 changed_here f store n m x y e is to = let a = contents_of-changed f n store in cc
 
 -- and any other what it had
-changed_else : (f : Contents → Contents) (store : PlainStore) (n m : Name) → n ≡ m → (i : Name) → m ≢ i
+changed_else : (f : Contents → Contents) (store : PlainStore) (n m : Name) → n ≡ m → (i : Name) → m
+    ≢ i
     → contents_of (with_changed f n store) i ≡ contents_of store i
-changed_else f store n m e i ne = contents_of-changed_other f n i store (λ (z : n ≡ i). ne (sym e ∙ z))
+changed_else f store n m e i ne = contents_of-changed_other f n i store
+    (λ (z : n ≡ i). ne (sym e ∙ z))
 
 module _ {U : Type 0} (p : Part U) (store : PlainStore)
     (known : Name → Type 0) (names : (n : Name) → known n → IsThere store n) where
@@ -27,7 +29,8 @@ module _ {U : Type 0} (p : Part U) (store : PlainStore)
   field_there (Refer i value) h = (h.0, one_there value h.1)
 
   -- an entry that reads the present contents stands, and leaves the store
-  pub reads_stand : (k : Known) (e : Entry) → contents_of store k.name ≡ Some k.contents → Reads known p k e
+  pub reads_stand : (k : Known) (e : Entry) → contents_of store k.name ≡ Some k.contents
+      → Reads known p k e
       → Stands store e × (effect_of store e ≡ store) × (caller_of e ≡ p.number)
   reads_stand k (Create q n refs numbers) is h = absurd h
   reads_stand k (Store q n field) is h = absurd h
@@ -57,7 +60,8 @@ module _ {U : Type 0} (p : Part U) (store : PlainStore)
     pub made : contents_of (effect_of store e) k.name ≡ Some x
     pub others : (n : Name) → k.name ≢ n → contents_of (effect_of store e) n ≡ contents_of store n
 
-  pub turns_stand : (k : Known) (x : Contents) (e : Entry) → contents_of store k.name ≡ Some k.contents
+  pub turns_stand : (k : Known) (x : Contents) (e : Entry) → contents_of store k.name
+      ≡ Some k.contents
       → Turns known p k x e → Turned k x e
   turns_stand k x (Create q n refs numbers) is h = absurd h
   turns_stand k x (Fetch q n answer) is h = absurd h

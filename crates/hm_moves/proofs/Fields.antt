@@ -82,7 +82,8 @@ pub bool_same : (a b c r : Bool) → r ≡ (b && not c) → a ≡ c → r ≡ ((
 bool_same a b true r e same = grind (arith, e, same, common_steps)
 bool_same a b false r e same = grind (arith, e, same, common_steps)
 
-pub bool_apart : (a b c r : Bool) → r ≡ (b && not c) → (a ≡ true → c ≡ false) → (a || r) ≡ ((a || b) && not c)
+pub bool_apart : (a b c r : Bool) → r ≡ (b && not c) → (a ≡ true → c ≡ false) → (a || r)
+    ≡ ((a || b) && not c)
 bool_apart true b c r e apart = let none = apart refl in grind (arith, none, common_steps)
 bool_apart false b c r e apart = e
 
@@ -102,7 +103,8 @@ any_less (m ∷ ms) k v =
     (λ (there : shown_as (Some k) v ≡ true).
     let a = eqb-true (version_shown m.version) v here in
     let b = eqb-true (version_shown k.version) v there in
-    let both : (m.version.0 == k.version.0) ≡ true = eq-eqb m.version.0 k.version.0 (omega (arith, a, b)) in
+    let both : (m.version.0 == k.version.0) ≡ true = eq-eqb m.version.0 k.version.0
+    (omega (arith, a, b)) in
     absurd (let no : true ≡ false = sym both ∙ t in cc))
     (λ (none : shown_as (Some k) v ≡ false). none)
     (cases_Bool (shown_as (Some k) v)))))
@@ -153,7 +155,8 @@ or_later false b e = e
 pub put_same : {A : Type 0} (facts : ℕ → A) (n : ℕ) (fact : A) → put facts n fact n ≡ fact
 put_same facts n fact = rw (eq-eqb n n refl) refl
 
-pub row_same : {A : Type 0} (facts : ℕ → ℕ → A) (n : ℕ) (row : ℕ → A) (i : ℕ) → put_row facts n row n i
+pub row_same : {A : Type 0} (facts : ℕ → ℕ → A) (n : ℕ) (row : ℕ → A) (i : ℕ) → put_row facts n row
+    n i
     ≡ row i
 row_same facts n row i = rw (eq-eqb n n refl) refl
 
@@ -162,7 +165,8 @@ pub table_same : {A : Type 0} (facts : ℕ → ℕ → ℕ → A) (n : ℕ) (tab
 table_same facts n table i j = rw (eq-eqb n n refl) refl
 
 -- nothing that a caller holds is known as from-space, where no version of the list is
-pub none_known : {U : Type 0} (p : Part U) (k : Known) → Contains p.hands.held k → holds_from p ≡ false
+pub none_known : {U : Type 0} (p : Part U) (k : Known) → Contains p.hands.held k → holds_from p
+    ≡ false
     → known_from p k.version ≡ false
 none_known p k there none = ⊎_elim
     (λ (t : known_from p k.version ≡ true).

@@ -16,7 +16,8 @@ refers_found index (suc v) None h = absurd (omega arith)
 refers_found index zero (Some n) h = let a = h.2 in absurd (omega arith)
 refers_found index (suc v) (Some n) h = let same : v ≡ h.0.version.0 = let a = h.2 in omega arith in
     let found : index v ≡ Some h.0 = ap index same ∙ h.1 in
-    subst (λ (o : Option Known). IsReference (suc v) o (Some n) × IfSome o (IsPublished index)) (sym found)
+    subst (λ (o : Option Known). IsReference (suc v) o (Some n) × IfSome o (IsPublished index))
+    (sym found)
     ((h.2, ap Some (sym h.3)), h.1)
 
 -- and so does a link
@@ -36,7 +37,8 @@ module _ {U : Type 0} (known : Name → Type 0) (p : Part U) where
   reads_by k (StoreIf q n stamp refs numbers Stored) h = absurd h
   reads_by k (StoreIf q n stamp refs numbers (Changed now)) h = h.0.caller
 
-  turns_by : (k fresh : Known) (e : Entry) → Turns known p k fresh.contents e → caller_of e ≡ p.number
+  turns_by : (k fresh : Known) (e : Entry) → Turns known p k fresh.contents e → caller_of e
+      ≡ p.number
   turns_by k fresh (Create q n refs numbers) h = absurd h
   turns_by k fresh (Fetch q n answer) h = absurd h
   turns_by k fresh (Store q n field) h = h.0.caller
@@ -50,7 +52,8 @@ module _ {U : Type 0} (known : Name → Type 0) (p : Part U) where
 
 module _ (index : Index) where
   -- published versions stay so
-  pub index_more : (o : Option Known) (k : Known) → IfSome o (λ m. index m.version.0 ≡ None) → IsPublished
+  pub index_more : (o : Option Known) (k : Known) → IfSome o (λ m. index m.version.0 ≡ None)
+      → IsPublished
       index k
       → IsPublished (index_with index o) k
   index_more None k f there = there
@@ -67,7 +70,8 @@ module _ (index : Index) where
 
 module _ {U : Type 0} (lawful : U → PlainStore → Type 0) (allowed : U → PlainStore → Entry → Type 0)
     (h : Heap) (seen : List Entry) (p : Part U) (good : HeapIsGood lawful allowed p.site h)
-    (mine : PartIsGood p.site h seen p) (known : Name → Type 0) (make : Entry → Type 0) (clean : Type 0)
+    (mine : PartIsGood p.site h seen p) (known : Name → Type 0) (make : Entry → Type 0)
+    (clean : Type 0)
     (later : Known → ℕ → Known → Type 0) where
   abbrev May : Act → Type 0
   May act = MayTake known make clean later p act
@@ -75,7 +79,8 @@ module _ {U : Type 0} (lawful : U → PlainStore → Type 0) (allowed : U → Pl
   -- the entry is the caller's
   pub entry_by : (act : Act) → May act → (x : ℕ) → IsBy p.number (entry_of p.number act x)
   entry_by (Looks l) may x = zero_some (λ e. caller_of e ≡ p.number) (want_of l) x
-      (some_more (Reads known p (looked_at l)) (λ e. caller_of e ≡ p.number) (reads_by known p (looked_at l))
+      (some_more (Reads known p (looked_at l)) (λ e. caller_of e ≡ p.number)
+      (reads_by known p (looked_at l))
       (want_of l) may.reads)
   entry_by (Builds (StoreOwn i word)) may x = tt
   entry_by (Builds (Publish k)) may x = refl
@@ -98,10 +103,12 @@ module _ {U : Type 0} (lawful : U → PlainStore → Type 0) (allowed : U → Pl
   next_now (Builds (LinkStore at k o)) may (suc n) = tt
 
   -- and was not published before
-  pub fresh_now : (act : Act) → May act → (x : ℕ) → IfSome (publishes act x) (λ k. h.index k.version.0 ≡ None)
+  pub fresh_now : (act : Act) → May act → (x : ℕ) → IfSome (publishes act x)
+      (λ k. h.index k.version.0 ≡ None)
   fresh_now act may x = some_more (λ k. (k.version ≡ next_version p) × HasRoom p)
       (λ k. h.index k.version.0 ≡ None)
-      (λ k t. fresh_none lawful allowed h seen p good mine k t.1 t.0) (publishes act x) (next_now act may x)
+      (λ k t. fresh_none lawful allowed h seen p good mine k t.1 t.0) (publishes act x)
+      (next_now act may x)
 
   look : (at : Known) → MayLookInto p at → IsPublished h.index at
   look at l = look_published h seen p mine at l
@@ -113,10 +120,13 @@ module _ {U : Type 0} (lawful : U → PlainStore → Type 0) (allowed : U → Pl
       (subst (IsLinked h.index (store_of h.history) at) (sym is) (good.chained.link at (look at l)))
 
   -- what is found is what is known of it
-  pub found_now : (act : Act) → IsWork act → May act → (x : ℕ) → x ≡ slice_index h.words (word_of p act)
+  pub found_now : (act : Act) → IsWork act → May act → (x : ℕ) → x ≡ slice_index h.words
+      (word_of p act)
       → Found act x (finds h.index act x) × IfSome (finds h.index act x) (IsPublished h.index)
-  found_now (Looks (LoadStamp at)) work may x is = ((is ∙ (good.contents at (look at may.look)).stamp, refl), tt)
-  found_now (Looks (LoadReference at i)) work may x is = refers_found h.index x (reference_at at.contents i)
+  found_now (Looks (LoadStamp at)) work may x is =
+      ((is ∙ (good.contents at (look at may.look)).stamp, refl), tt)
+  found_now (Looks (LoadReference at i)) work may x is = refers_found h.index x
+      (reference_at at.contents i)
       (subst (λ (w : ℕ). Refers h.index w (reference_at at.contents i)) (sym is)
       ((good.contents at (look at may.look)).refs i may.word))
   found_now (Looks (LoadNumber at i)) work may x is =

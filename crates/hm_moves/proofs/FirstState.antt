@@ -85,7 +85,8 @@ row_zero versions v low = div-eq_of_lt low
 owner_low : (s : Shape) (row : ℕ) → owner_shown s row < s.callers
 owner_low s row =
     let some : 0 < s.regions = omega (arith, s.regions_fit) in
-    let iff : (row / s.regions < s.callers) ↔ (row < s.callers * s.regions) = div-lt_iff_lt-mul some in
+    let iff : (row / s.regions < s.callers) ↔ (row < s.callers * s.regions) = div-lt_iff_lt-mul
+    some in
     let one : 0 < s.callers = omega (arith, s.callers_fit) in
     let back : row < s.callers * s.regions → row / s.regions < s.callers = iff.1 in
     grind (arith, nat_tests, common_steps, back, one)
@@ -95,7 +96,8 @@ module _ (s : Shape) (n : ℕ) (words : List ℕ) (common : Version) (next : ℕ
   abbrev pub first_word : ℕ → ℕ → ℕ
   first_word zero f = 0
   first_word (suc v) f =
-      if nat_lt f field_count then slice_index words (word_at s record { 0 = v } (field_word f)) else 0
+      if nat_lt f field_count then slice_index words (word_at s record { 0 = v } (field_word f))
+      else 0
 
   -- what they are versions of, which of them are used, and how many of a row
   abbrev pub first_object : ℕ → ℕ
@@ -164,7 +166,8 @@ module _ (s : Shape) (n : ℕ) (words : List ℕ) (common : Version) (next : ℕ
     used_low w less = grind (arith, nat_tests)
 
     held_low : (v : ℕ) → ((version_shown common == v) || false) ≡ true → first_used v ≡ true
-    held_low v e = grind (arith, nat_tests, eqb_tells (version_shown common) v, used_low common.0 low)
+    held_low v e =
+        grind (arith, nat_tests, eqb_tells (version_shown common) v, used_low common.0 low)
 
     first_row : (v : ℕ) → first_used v ≡ true → (shape_shown s).region v ≡ 0
     first_row zero e = absurd (cc)
@@ -172,7 +175,8 @@ module _ (s : Shape) (n : ℕ) (words : List ℕ) (common : Version) (next : ℕ
         let same : suc w - 1 ≡ w = omega arith in
         rw (same) (row_zero s.versions w (grind (arith, nat_tests)))
 
-    first_to : (v : ℕ) → first_used v ≡ true → role_shown (first_role s.regions ((shape_shown s).region v))
+    first_to : (v : ℕ) → first_used v ≡ true
+        → role_shown (first_role s.regions ((shape_shown s).region v))
         ≡ rounds.To
     first_to v e =
         let four : s.regions ≡ 4 = s.regions_fit in
@@ -183,7 +187,8 @@ module _ (s : Shape) (n : ℕ) (words : List ℕ) (common : Version) (next : ℕ
     beyond_zero : (w f : ℕ) → 4 ≤ f → first_word (suc w) (suc f) ≡ 0
     beyond_zero w f high = grind (arith, nat_tests, common_steps)
 
-    named_used : (v f : ℕ) → first_used v ≡ true → first_word v f ≢ 0 → first_used (first_word v f) ≡ true
+    named_used : (v f : ℕ) → first_used v ≡ true → first_word v f ≢ 0 → first_used (first_word v f)
+        ≡ true
     named_used zero f e some = absurd (cc)
     named_used (suc v) zero e some = absurd (some (linked v (grind (arith, nat_tests))))
     named_used (suc v) (suc f) e some = ⊎_elim
@@ -199,7 +204,8 @@ module _ (s : Shape) (n : ℕ) (words : List ℕ) (common : Version) (next : ℕ
     link_zero zero e = refl
     link_zero (suc v) e = linked v (grind (arith, nat_tests))
 
-    single_object : (v w : ℕ) → first_used v ≡ true → first_used w ≡ true → first_object w ≡ first_object v
+    single_object : (v w : ℕ) → first_used v ≡ true → first_used w ≡ true → first_object w
+        ≡ first_object v
         → w ≡ v
     single_object zero w a b e = absurd (cc)
     single_object (suc v) zero a b e = absurd (cc)
@@ -246,7 +252,8 @@ module _ (s : Shape) (n : ℕ) (words : List ℕ) (common : Version) (next : ℕ
         some_object v e,
         ap (λ (k : ℕ). not (k == 0)) (found_object v e) ∙ ap not (ne_eqb v 0 (some_used v e)),
       );
-      refs = λ v f e some few. ap (λ (k : ℕ). title first_state.versions (first_word k f)) (found_object v e);
+      refs = λ v f e some few. ap (λ (k : ℕ). title first_state.versions (first_word k f))
+          (found_object v e);
       counts = λ row. (grind (arith, nat_tests, common_steps, room), refl, refl);
       total = λ v e. omega (arith, low);
     }

@@ -8,7 +8,8 @@ use Rattle.hm_shape.specs.Words.{roles_word}
 use Rattle.hm_moves.specs.Fresh.{fresh_roles}
 
 -- all side objects are laid, from number k on
-pub record AreLaid (before : List ℕ) (k : ℕ) (sides : List (Option Numbers)) (words after : List ℕ) : Type 0 where
+pub record AreLaid (before : List ℕ) (k : ℕ) (sides : List (Option Numbers))
+    (words after : List ℕ) : Type 0 where
   pub laid : after ≡ before ++ flat_map known_words (side_known k sides)
   pub names : words ≡ map count_word (side_names k sides)
 
@@ -19,31 +20,37 @@ none_laid before k = record { laid = sym (append-nil before); names = refl }
 pub first_known : (k : ℕ) (side : Option Numbers) (sides : List (Option Numbers))
     → side_known k (side ∷ sides)
     ≡ side_known k (side ∷ []) ++ side_known (k + length (side_known k (side ∷ []))) sides
-first_known k None sides = let same : k ≡ k + 0 = omega arith in ap (λ (j : ℕ). side_known j sides) same
+first_known k None sides = let same : k ≡ k + 0 = omega arith in ap (λ (j : ℕ). side_known j sides)
+    same
 first_known k (Some numbers) sides = refl
 
 pub first_name : (k : ℕ) (side : Option Numbers) (sides : List (Option Numbers))
     → side_names k (side ∷ sides)
     ≡ side_names k (side ∷ []) ++ side_names (k + length (side_known k (side ∷ []))) sides
-first_name k None sides = let same : k ≡ k + 0 = omega arith in ap (λ (j : ℕ). None ∷ side_names j sides) same
+first_name k None sides = let same : k ≡ k + 0 = omega arith in
+    ap (λ (j : ℕ). None ∷ side_names j sides) same
 first_name k (Some numbers) sides = refl
 
-pub one_laid : (before : List ℕ) (k : ℕ) (side : Option Numbers) (word : ℕ) (more : List ℕ) (next : ℕ)
+pub one_laid : (before : List ℕ) (k : ℕ) (side : Option Numbers) (word : ℕ) (more : List ℕ)
+    (next : ℕ)
     (sides : List (Option Numbers)) (words after : List ℕ) → LaysSide before k side word more next
     → AreLaid more next sides words after → AreLaid before k (side ∷ sides) (word ∷ words) after
 one_laid before k side word more next sides words after one rest =
     let here : List Known = side_known k (side ∷ []) in
     let names : Refs = side_names k (side ∷ []) in
-    let a = append_assoc before (flat_map known_words here) (flat_map known_words (side_known (k + length here) sides)) in
+    let a = append_assoc before (flat_map known_words here)
+    (flat_map known_words (side_known (k + length here) sides)) in
     let b = flat_map-append known_words here (side_known (k + length here) sides) in
     let c = map-append count_word names (side_names (k + length here) sides) in
     let known = first_known k side sides in
     let name = first_name k side sides in
-    let laid = rest.laid in let words_are = one.words in let count = one.count in let word_is = one.name in
+    let laid = rest.laid in let words_are = one.words in let count = one.count in
+    let word_is = one.name in
     let names_are = rest.names in record { laid = cc; names = cc }
 
 -- the common object's version comes last
-pub all_laid : (start : Start) (before words after : List ℕ) → AreLaid before 0 start.sides words after
+pub all_laid : (start : Start) (before words after : List ℕ) → AreLaid before 0 start.sides words
+    after
     → after ++ (0 ∷ 0 ∷ words ++ start.numbers) ≡ before ++ flat_map known_words (all_known start)
 all_laid start before words after h =
     let sides : List ℕ = flat_map known_words (side_known 0 start.sides) in
@@ -87,7 +94,8 @@ all_below : (start : Start) → All (RefersBelow (length (all_known start))) (al
 all_below start =
     let n : ℕ = length (all_known start) in
     let one = length-append (side_known 0 start.sides) (common_known start ∷ []) in
-    All-append (RefersBelow n) (side_known 0 start.sides) (common_known start ∷ []) (sides_below n 0 start.sides)
+    All-append (RefersBelow n) (side_known 0 start.sides) (common_known start ∷ [])
+    (sides_below n 0 start.sides)
     (All-cons (RefersBelow n) (common_known start) [] (names_below n 0 start.sides (omega arith))
     (All-nil (RefersBelow n)))
 
@@ -116,7 +124,8 @@ word_of_place k (x ∷ ms) rest zero j m h e low =
     let wide = words_wide x h.0.sized in
     let at : 16 * 0 + j ≡ j = omega arith in
     let a = append_assoc (known_words x) (flat_map known_words ms) rest in
-    let b = get_or_append_left (known_words x) (flat_map known_words ms ++ rest) 0 j (omega arith) in cc
+    let b = get_or_append_left (known_words x) (flat_map known_words ms ++ rest) 0 j
+    (omega arith) in cc
 word_of_place k (x ∷ ms) rest (suc i) j m h e low =
     let wide = words_wide x h.0.sized in
     let at : 16 * suc i + j ≡ length (known_words x) + (16 * i + j) = omega arith in
@@ -126,7 +135,8 @@ word_of_place k (x ∷ ms) rest (suc i) j m h e low =
     ∙ (get_or-append-add (known_words x) (flat_map known_words ms ++ rest) (16 * i + j) 0
     ∙ word_of_place (k + 1) ms rest i j m h.1 e low))
 
-module _ (s : Shape) (start : Start) (sized : IsSizedStart start) (room : starting_count start ≤ s.versions)
+module _ (s : Shape) (start : Start) (sized : IsSizedStart start)
+    (room : starting_count start ≤ s.versions)
   where
     abbrev laid : List ℕ
     laid = flat_map known_words (all_known start)
@@ -141,10 +151,12 @@ module _ (s : Shape) (start : Start) (sized : IsSizedStart start) (room : starti
     roles = replicate s.callers (roles_word fresh_roles)
 
     rows : 0 < row_count s
-    rows = mul-lt 0 0 s.callers s.regions (omega (arith, s.callers_fit)) (omega (arith, s.regions_fit))
+    rows = mul-lt 0 0 s.callers s.regions (omega (arith, s.callers_fit))
+        (omega (arith, s.regions_fit))
 
     few : length (all_known start) ≤ version_count s
-    few = let long = many start sized in let more = versions_some (row_count s) s.versions rows in omega arith
+    few = let long = many start sized in let more = versions_some (row_count s) s.versions rows in
+        omega arith
 
     zeros_wide : length zeros ≡ s.callers + 1
     zeros_wide = length-replicate (s.callers + 1) 0
@@ -181,7 +193,8 @@ module _ (s : Shape) (start : Start) (sized : IsSizedStart start) (room : starti
         ∙ (get_or_append_left zeros (roles ++ (laid ++ rest)) 0 i (omega arith)
         ∙ get_or-replicate (s.callers + 1) i 0 0 (omega arith))
 
-    roles_there : (q : ℕ) → q < s.callers → get_or (first_words s start) (roles_at s q) 0 ≡ roles_word fresh_roles
+    roles_there : (q : ℕ) → q < s.callers → get_or (first_words s start) (roles_at s q) 0
+        ≡ roles_word fresh_roles
     roles_there q low =
         let wide = zeros_wide in
         let long : length roles ≡ s.callers = length-replicate s.callers (roles_word fresh_roles) in
@@ -195,10 +208,12 @@ module _ (s : Shape) (start : Start) (sized : IsSizedStart start) (room : starti
         → words_at s (first_words s start) k j ≡ get_or (known_words k) j 0
     first_word k j there low =
         let c = head_wide in
-        let at : word_at s k.version j ≡ length (head_words s) + (16 * k.version.0 + j) = omega arith in
+        let at : word_at s k.version j ≡ length (head_words s) + (16 * k.version.0 + j) = omega
+        arith in
         let a = append_assoc (head_words s) laid rest in
         let b = get_or-append-add (head_words s) (laid ++ rest) (16 * k.version.0 + j) 0 in
-        let d = word_of_place 0 (all_known start) rest k.version.0 j k (numbered start sized) there low in cc
+        let d = word_of_place 0 (all_known start) rest k.version.0 j k (numbered start sized) there
+        low in cc
 
     reference_word : (k : Known) (i : ℕ) → IsSized k.contents.refs k.contents.numbers → i < 4
         → get_or (known_words k) (2 + i) 0 ≡ count_word (reference_at k.contents i)
@@ -206,7 +221,8 @@ module _ (s : Shape) (start : Start) (sized : IsSizedStart start) (room : starti
         let four = h.four in
         let long = length-map k.contents.refs count_word in
         let at : 2 + i ≡ suc (suc i) = omega arith in
-        let a = get_or_append_left (map count_word k.contents.refs) k.contents.numbers 0 i (omega arith) in
+        let a = get_or_append_left (map count_word k.contents.refs) k.contents.numbers 0 i
+        (omega arith) in
         let b = get_or-map count_word k.contents.refs i None 0 (omega arith) in cc
 
     number_word : (k : Known) (i : ℕ) → IsSized k.contents.refs k.contents.numbers
@@ -215,7 +231,8 @@ module _ (s : Shape) (start : Start) (sized : IsSizedStart start) (room : starti
         let four = h.four in
         let long = length-map k.contents.refs count_word in
         let at : 6 + i ≡ length (0 ∷ 0 ∷ map count_word k.contents.refs) + i = omega arith in
-        let a = get_or-append-add (0 ∷ 0 ∷ map count_word k.contents.refs) k.contents.numbers i 0 in cc
+        let a = get_or-append-add (0 ∷ 0 ∷ map count_word k.contents.refs) k.contents.numbers i 0 in
+        cc
 
     -- a starting object's name is of the version with its count
     refers : (o : Option Name) → IfSome o (IsBelow (length (all_known start)))
@@ -236,7 +253,8 @@ module _ (s : Shape) (start : Start) (sized : IsSizedStart start) (room : starti
         )
 
     refers_at : (k : Known) (i : ℕ) → IsPublished (fresh_index start) k
-        → Refers (fresh_index start) (count_word (reference_at k.contents i)) (reference_at k.contents i)
+        → Refers (fresh_index start) (count_word (reference_at k.contents i))
+        (reference_at k.contents i)
     refers_at k i there =
         let low = slice_get_within (all_known start) k.version.0 k there in
         refers (reference_at k.contents i)
@@ -258,7 +276,8 @@ module _ (s : Shape) (start : Start) (sized : IsSizedStart start) (room : starti
           let at = known_at start sized k there in
           record {
             stamp = first_word k 1 there (omega arith) ∙ sym at.stamp;
-            refs = λ i low. subst (λ (w : ℕ). Refers (fresh_index start) w (reference_at k.contents i))
+            refs = λ i low. subst
+                (λ (w : ℕ). Refers (fresh_index start) w (reference_at k.contents i))
                 (sym (first_word k (2 + i) there (omega arith) ∙ reference_word k i at.sized low))
                 (refers_at k i there);
             numbers = λ i low. first_word k (6 + i) there (omega arith) ∙ number_word k i at.sized;

@@ -11,9 +11,10 @@ use Rattle.std.proofs.Common.{true, ◌%◌}
 use Rattle.std.proofs.Math.Nat.{div-eq_of_lt, mod-eq_of_lt}
 use Rattle.std.proofs.lemmas.Nat.{mod-mul-add}
 use Rattle.hm_shape.specs.declared.roles.Role.TheVariants.{Free, To}
-use Rattle.hm_moves.specs.Good.{row_in}
+use Rattle.hm_moves.specs.Good.{HasMet, row_in}
 use Rattle.hm_moves.proofs.Words.{is_kept}
 use Rattle.hm_moves.proofs.Opening.{collects_fresh}
+use Rattle.hm_moves.proofs.Meeting.{met_none}
 use Rattle.hm_moves.proofs.Fresh.{AreNumbered, slice_get_contains, numbered, many, common_published, listed_published, used_first, used_other, placed, ranked, chained}
 
 sides_below : (n k : ℕ) (sides : List (Option Numbers)) → 0 < n → AreBelow n (side_entries k sides)
@@ -34,7 +35,8 @@ module _ {U : Type 0} (lawful : U → PlainStore → Type 0) (allowed : U → Pl
     (sized : IsSizedStart g.start) (room : starting_count g.start ≤ g.shape.versions) where
   module _ (words : List ℕ) (wide : length words ≡ word_count g.shape)
       (contents : AreTrue g.shape words (fresh_index g.start))
-      (links : (k : Known) → IsPublished (fresh_index g.start) k → link_of g.shape words k ≡ 0) where
+      (links : (k : Known) → IsPublished (fresh_index g.start) k → link_of g.shape words k
+      ≡ 0) where
     abbrev heap : Heap
     heap = record {
       words = words;
@@ -70,7 +72,8 @@ module _ {U : Type 0} (lawful : U → PlainStore → Type 0) (allowed : U → Pl
     abbrev own_list : ℕ → List Known
     own_list q = if q == 0 then all_known g.start else []
 
-    first_place : (k : Known) → IsPublished (fresh_index g.start) k → IsAt g.shape k.version 0 0 k.version.0
+    first_place : (k : Known) → IsPublished (fresh_index g.start) k → IsAt g.shape k.version 0 0
+        k.version.0
     first_place k there =
         let low = slice_get_within (all_known g.start) k.version.0 k there in
         let long = many g.start sized in
@@ -84,7 +87,8 @@ module _ {U : Type 0} (lawful : U → PlainStore → Type 0) (allowed : U → Pl
         at : k.version.0 ≡ (0 * g.shape.regions + 0) * g.shape.versions + k.version.0
         at = omega arith
 
-    own_listed : (q : ℕ) (k : Known) → Contains (own_list q) k → IsOwn g.shape q (fresh_index g.start) k
+    own_listed : (q : ℕ) (k : Known) → Contains (own_list q) k → IsOwn g.shape q
+        (fresh_index g.start) k
     own_listed q k there = dite (ℕ_discrete q 0)
         (λ e. let c : Contains (all_known g.start) k = rw (eq-eqb q 0 e) at there in
         let is = listed_published g.start sized k c in
@@ -94,7 +98,8 @@ module _ {U : Type 0} (lawful : U → PlainStore → Type 0) (allowed : U → Pl
           place = k.version.0;
           at = subst (λ (n : ℕ). IsAt g.shape k.version n 0 k.version.0) (sym e) (first_place k is);
         })
-        (λ ne. let c : Contains [] k = rw (ne_eqb q 0 ne) at there in let low = c.1 in absurd (omega arith))
+        (λ ne. let c : Contains [] k = rw (ne_eqb q 0 ne) at there in let low = c.1 in
+        absurd (omega arith))
 
     numbered_apart : (k : ℕ) (ms : List Known) → AreNumbered k ms → AreApart ms
     numbered_apart k [] h = tt
@@ -112,7 +117,8 @@ module _ {U : Type 0} (lawful : U → PlainStore → Type 0) (allowed : U → Pl
             rw (ne_eqb x.version.0 n (λ z. omega arith)) (none_of n (j + 1) xs e.1 (omega arith))
 
     own_apart : (q : ℕ) → AreApart (own_list q)
-    own_apart q = grind (arith, common_steps, numbered_apart 0 (all_known g.start) (numbered g.start sized))
+    own_apart q =
+        grind (arith, common_steps, numbered_apart 0 (all_known g.start) (numbered g.start sized))
 
     -- a version of another row than the first is not there
     first_row : (q region place : ℕ) (k : Known) → IsPublished (fresh_index g.start) k
@@ -120,11 +126,13 @@ module _ {U : Type 0} (lawful : U → PlainStore → Type 0) (allowed : U → Pl
     first_row q region place k there at ne =
         let low = slice_get_within (all_known g.start) k.version.0 k there in
         let long = many g.start sized in
-        let number : k.version.0 ≡ (q * g.shape.regions + region) * g.shape.versions + place =
+        let number : k.version.0
+        ≡ (q * g.shape.regions + region) * g.shape.versions + place =
         ap (λ (v : Version). v.0) at.number in
         let row : 0 < q * g.shape.regions =
         mul-lt 0 0 q g.shape.regions (omega arith) (omega (arith, g.shape.regions_fit)) in
-        let same : 0 * g.shape.versions + k.version.0 ≡ (q * g.shape.regions + region) * g.shape.versions +
+        let same : 0 * g.shape.versions + k.version.0
+        ≡ (q * g.shape.regions + region) * g.shape.versions +
         place =
         omega arith in
         let zero_row : 0 ≡ q * g.shape.regions + region =
@@ -132,7 +140,8 @@ module _ {U : Type 0} (lawful : U → PlainStore → Type 0) (allowed : U → Pl
         at.place_fits same in
         omega arith
 
-    own_all : (q : ℕ) (k : Known) → IsOwn g.shape q (fresh_index g.start) k → Contains (own_list q) k
+    own_all : (q : ℕ) (k : Known) → IsOwn g.shape q (fresh_index g.start) k → Contains (own_list q)
+        k
     own_all q k own = grind (
       arith,
       nat_tests,
@@ -141,21 +150,25 @@ module _ {U : Type 0} (lawful : U → PlainStore → Type 0) (allowed : U → Pl
     )
 
     -- each caller writes into its first region
-    first_role : (q : ℕ) → (if (q * g.shape.regions + 0) % g.shape.regions == 0 then To else Free) ≡ To
+    first_role : (q : ℕ) → (if (q * g.shape.regions + 0) % g.shape.regions == 0 then To else Free)
+        ≡ To
     first_role q = rw (eq-eqb ((q * g.shape.regions + 0) % g.shape.regions) 0
         (mod-mul-add q g.shape.regions 0 (omega (arith, g.shape.regions_fit)))) refl
 
     own_kept : (q : ℕ) (k : Known) → Contains (own_list q) k
         → is_kept (if row_in g.shape k.version % g.shape.regions == 0 then To else Free) ≡ true
     own_kept q k there =
-        let low = slice_get_within (all_known g.start) k.version.0 k (own_listed q k there).published in
+        let low = slice_get_within (all_known g.start) k.version.0 k
+        (own_listed q k there).published in
         let long = many g.start sized in
         let row : row_in g.shape k.version ≡ 0 = div-eq_of_lt (omega arith) in
         rw (eq-eqb (row_in g.shape k.version % g.shape.regions) 0
-        (ap (λ (r : ℕ). r % g.shape.regions) row ∙ mod-eq_of_lt (omega (arith, g.shape.regions_fit))))
+        (ap (λ (r : ℕ). r % g.shape.regions) row
+        ∙ mod-eq_of_lt (omega (arith, g.shape.regions_fit))))
         refl
 
-    part_good : (q : ℕ) → q < g.shape.callers → PartIsGood g heap (opening_of g.start) (fresh_part g q)
+    part_good : (q : ℕ) → q < g.shape.callers → PartIsGood g heap (opening_of g.start)
+        (fresh_part g q)
     part_good q low = record {
       site = refl;
       number = low;
@@ -203,9 +216,12 @@ module _ {U : Type 0} (lawful : U → PlainStore → Type 0) (allowed : U → Pl
         history = sym fresh.heap.history i;
       } in
       record {
-        heap = subst (HeapIsGood lawful allowed g) same (heap_good words fresh.heap.wide contents links now);
-        seen = λ j v there. subst (λ (l : List Entry). Begins l c.heap.history) (sym (fresh.seen j v there))
-            (subst (Begins (opening_of g.start)) (sym fresh.heap.history) (begins_self (opening_of g.start)));
+        heap = subst (HeapIsGood lawful allowed g) same
+            (heap_good words fresh.heap.wide contents links now);
+        seen = λ j v there. subst (λ (l : List Entry). Begins l c.heap.history)
+            (sym (fresh.seen j v there))
+            (subst (Begins (opening_of g.start)) (sym fresh.heap.history)
+            (begins_self (opening_of g.start)));
         parts = λ j k v p at.
             let q = fresh.parts j k v p at in
             subst (PartIsGood g c.heap v.seen) (sym q.1)
@@ -215,4 +231,6 @@ module _ {U : Type 0} (lawful : U → PlainStore → Type 0) (allowed : U → Pl
             (part_good words fresh.heap.wide contents links p.number q.0)));
         apart = fresh.apart;
         collects = collects_fresh g c sized room fresh;
+        met = λ j k v p at. subst (HasMet g.shape c.heap) (sym (fresh.parts j k v p at).1)
+            (met_none g.shape c.heap (fresh_part g p.number) refl);
       }

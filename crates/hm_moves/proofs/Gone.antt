@@ -30,7 +30,8 @@ gone (Some k) high = version_shown k.version
 -- it stays where it is found, or published, by the step before
 abbrev pub stays : Option Known → Option Known → Option Known → Bool
 stays None found new = true
-stays (Some k) found new = shown_as found (version_shown k.version) || shown_as new (version_shown k.version)
+stays (Some k) found new = shown_as found (version_shown k.version)
+    || shown_as new (version_shown k.version)
 
 bool_gone : (a f n here stay : Bool) → (here ≡ true → stay ≡ (f || n))
     → (((a || f) || n) && (stay || not here)) ≡ (((a && not here) || f) || n)
@@ -96,11 +97,12 @@ still_written (Some k) written j w high n is low =
     ne_eqb w (version_shown k.version) (λ e. unnamed_other k written j w is n (omega (arith, e)))
 
 -- a caller with a place left has a next version
-pub next_some : {U : Type 0} (p : Part U) → HasRoom p → next_shown p ≡ version_shown (next_version p)
+pub next_some : {U : Type 0} (p : Part U) → HasRoom p → next_shown p
+    ≡ version_shown (next_version p)
 next_some p room = rw (lt-ltb p.draft.used p.site.shape.versions room) refl
 
--- a caller, as it is after a step and after it let go of a version, or of none; and the state after its step.
--- `held` is what it held before, and `written` what it had written after the step
+-- a caller, as it is after a step and after it let go of a version, or of none; and the state after
+-- its step. `held` is what it held before, and `written` what it had written after the step
 module _ {U : Type 0} (p : Part U) (h : Heap) (moves : ℕ → ℕ) (x : State)
     (held : List Known) (found new o : Option Known) (written : List (Option ℕ)) (was : Bool) where
   abbrev s : Shape
@@ -119,7 +121,8 @@ module _ {U : Type 0} (p : Part U) (h : Heap) (moves : ℕ → ℕ) (x : State)
       cycle = record p.cycle
           { scan = record p.cycle.scan { bare = false } };
     }) x
-    pub held_were : (v : ℕ) → x.hands.held q v ≡ ((any_shown held v || shown_as found v) || shown_as new v)
+    pub held_were : (v : ℕ) → x.hands.held q v
+        ≡ ((any_shown held v || shown_as found v) || shown_as new v)
     pub held_are : p.hands.held ≡ with_held (with_held (without held o) found) new
     pub next : x.hands.next q ≡ next_shown p
     pub written_were : (f : ℕ) → f < field_count → HasRoom p
@@ -128,7 +131,8 @@ module _ {U : Type 0} (p : Part U) (h : Heap) (moves : ℕ → ℕ) (x : State)
     pub bare_was : was ≡ true → holds_from p ≡ false → x.bare q ≡ true
     pub bare_is : p.cycle.scan.bare ≡ (is_cleared p || (was && not (holds_from p)))
 
-  module _ (a : Acted) (placed : ArePlaced s h.index h.places.dead h.places.used) (seen : List Entry)
+  module _ (a : Acted) (placed : ArePlaced s h.index h.places.dead h.places.used)
+      (seen : List Entry)
       (good : PartIsGood p.site h seen p) where
     abbrev version : ℕ
     version = gone o (above (x.versions.word (x.hands.next q)) field_count)
@@ -149,15 +153,18 @@ module _ {U : Type 0} (p : Part U) (h : Heap) (moves : ℕ → ℕ) (x : State)
         row_same x.hands.held q (λ other. x.hands.held q
         other && (stays o found new || not (other == version))) v
         ∙ (ap (λ (t : Bool). t && (stays o found new || not (v == version))) (a.held_were v)
-        ∙ (any_gone held o found new high v ∙ ap (λ (l : List Known). any_shown l v) (sym a.held_are)))
+        ∙ (any_gone held o found new high v ∙ ap (λ (l : List Known). any_shown l v)
+        (sym a.held_are)))
 
     written_now : (b : Bool) (f : ℕ) → f < field_count → HasRoom p
-        → IsSome (slice_index_or p.draft.written (field_word f) None) → (after b).hands.written q f ≡ true
+        → IsSome (slice_index_or p.draft.written (field_word f) None) → (after b).hands.written q f
+        ≡ true
     written_now b f low room some =
         let high : ℕ = above (x.versions.word (x.hands.next q)) field_count in
         let r = some_there (slice_index_or p.draft.written (field_word f) None) some in
         let is : IsWritten (unnamed o written) (field_word f) r.0 =
-        ap (λ (l : List (Option ℕ)). slice_index_or l (field_word f) None) (sym a.written_are) ∙ r.1 in
+        ap (λ (l : List (Option ℕ)). slice_index_or l (field_word f) None) (sym a.written_are)
+        ∙ r.1 in
         let before : x.hands.written q f ≡ true =
         a.written_were f low room (ap is_some (unnamed_was o written (field_word f) r.0 is)) in
         let word : x.versions.word (x.hands.next q) f ≡ r.0 = next_word f r.0 low room r.1 in
@@ -167,16 +174,19 @@ module _ {U : Type 0} (p : Part U) (h : Heap) (moves : ℕ → ℕ) (x : State)
         ap (λ (n : ℕ). n == version) word
         ∙ still_written o written (field_word f) r.0 high (field_names f low) is less in
         row_same x.hands.written q
-        (λ field. x.hands.written q field && not (x.versions.word (x.hands.next q) field == version)) f
+        (λ field. x.hands.written q field
+        && not (x.versions.word (x.hands.next q) field == version)) f
         ∙ grind (arith, before, other, common_steps)
       where
-        next_word : (f w : ℕ) → f < field_count → HasRoom p → IsWritten p.draft.written (field_word f) w
+        next_word : (f w : ℕ) → f < field_count → HasRoom p → IsWritten p.draft.written
+            (field_word f) w
             → x.versions.word (x.hands.next q) f ≡ w
         next_word f w low room is =
             let row = row_below s q p.draft.region good.number good.draft.region in
             let small = version_below s (row_of s q p.draft.region) p.draft.used row room in
             ap (λ (n : ℕ). x.versions.word n f) (a.next ∙ next_some p room)
-            ∙ (a.heap.words (next_version p) f small low ∙ good.draft.written room (field_word f) w is)
+            ∙ (a.heap.words (next_version p) f small low ∙ good.draft.written room (field_word f) w
+            is)
 
     below : q < x.shape.callers
     below = subst (λ (z : state.Shape). q < z.callers) (sym a.heap.shape) good.number
@@ -254,21 +264,24 @@ module _ {U : Type 0} (p : Part U) (h : Heap) (moves : ℕ → ℕ) (x : State)
 
     mine_listed : (v : ℕ) → rounds.Mine (after false) q (suc v)
         → (k : Known) × Contains p.hands.own k × (k.version.0 ≡ v)
-    mine_listed = mine_own s h moves (after false) (heap_now false) not_bare placed bared_not part_not_bare
+    mine_listed = mine_own s h moves (after false) (heap_now false) not_bare placed bared_not
+        part_not_bare
         good.hands good.number
 
     -- nothing that it holds is known as from-space
     clean_now : (b : Bool) → holds_from p ≡ false → (v : ℕ) → (after b).hands.held q v ≡ true
         → rounds.known_from x.shape x.masks q v ≡ false
     clean_now b clean v is =
-        let r = any_found (λ k. version_shown k.version == v) p.hands.held (sym (held_now b v) ∙ is) in
+        let r = any_found (λ k. version_shown k.version == v) p.hands.held
+        (sym (held_now b v) ∙ is) in
         let at : version_shown r.0.version ≡ v = eqb-true (version_shown r.0.version) v r.2 in
         let known : known_from p r.0.version ≡ false = none_found r.0 r.1 clean in
         ap (λ (n : ℕ). rounds.known_from x.shape x.masks q n) (sym at)
         ∙ (from_scan (after b) bared_not a.heap.shape (scan_not_bare b) r.0.version
         (placed.fits r.0 (good.hands.held r.0 r.1)) ∙ known)
       where
-        none_found : (k : Known) → Contains p.hands.held k → holds_from p ≡ false → known_from p k.version
+        none_found : (k : Known) → Contains p.hands.held k → holds_from p ≡ false
+            → known_from p k.version
             ≡ false
         none_found k there none = ⊎_elim
             (λ (t : known_from p k.version ≡ true).
@@ -278,29 +291,35 @@ module _ {U : Type 0} (p : Part U) (h : Heap) (moves : ℕ → ℕ) (x : State)
             (cases_Bool (known_from p k.version))
 
     -- what is its own was passed by a scan that has come to the end
-    passed_all : (b : Bool) → nat_le (field_count * length p.hands.own) p.cycle.scan.cursor ≡ true → (v f : ℕ)
+    passed_all : (b : Bool) → nat_le (field_count * length p.hands.own) p.cycle.scan.cursor ≡ true
+        → (v f : ℕ)
         → rounds.Mine (after false) q v → f < field_count → x.scan.passed q v f ≡ true
-    passed_all b past zero f mine low = absurd (let no : true ≡ false = sym mine.is_used ∙ a.heap.none in cc)
+    passed_all b past zero f mine low =
+        absurd (let no : true ≡ false = sym mine.is_used ∙ a.heap.none in cc)
     passed_all b past (suc v) f mine low =
         let r = mine_listed v mine in
         let i : ℕ = r.1.0 in
         let get : slice_get p.hands.own i ≡ Some r.0 =
         slice_get-get_or p.hands.own i r.0 r.1.1 ∙ ap (λ (z : Known). Some z) r.1.2 in
         let small : i < length p.hands.own = r.1.1 in
-        let end : field_count * length p.hands.own ≤ p.cycle.scan.cursor = grind (arith, nat_tests, past) in
+        let end : field_count * length p.hands.own ≤ p.cycle.scan.cursor = grind
+        (arith, nat_tests, past) in
         ap (λ (n : ℕ). x.scan.passed q (suc n) f) (sym r.2)
         ∙ a.scan.passed i f r.0 get low (omega (arith, small, end, low))
 
     cleared_now : (b : Bool) → is_cleared p ≡ true → IsCleared (after b) q
     cleared_now b e =
-        let outer = and_parts (has_masks p && nat_le (field_count * length p.hands.own) p.cycle.scan.cursor)
+        let outer = and_parts
+        (has_masks p && nat_le (field_count * length p.hands.own) p.cycle.scan.cursor)
         (not (holds_from p)) e in
-        let inner = and_parts (has_masks p) (nat_le (field_count * length p.hands.own) p.cycle.scan.cursor)
+        let inner = and_parts (has_masks p)
+        (nat_le (field_count * length p.hands.own) p.cycle.scan.cursor)
         outer.0 in
         let clean : holds_from p ≡ false = not_true (holds_from p) outer.1 in
         record {
           masks = λ other less.
-              let low : other < s.callers = subst (λ (z : state.Shape). other < z.callers) a.heap.shape
+              let low : other < s.callers = subst (λ (z : state.Shape). other < z.callers)
+              a.heap.shape
               less in
               a.scan.loaded other low ∙ every_mask p.cycle.scan.masks other inner.0
               (subst (λ (n : ℕ). other < n) (sym a.scan.wide) low);
@@ -333,7 +352,8 @@ module _ {U : Type 0} (p : Part U) (h : Heap) (moves : ℕ → ℕ) (x : State)
     heap_gone = heap_now p.cycle.scan.bare
 
     holds_bare : p.cycle.scan.bare ≡ true → holds_from p ≡ false
-    holds_bare e = bare_clean (has_masks p) (nat_le (field_count * length p.hands.own) p.cycle.scan.cursor)
+    holds_bare e = bare_clean (has_masks p)
+        (nat_le (field_count * length p.hands.own) p.cycle.scan.cursor)
         (holds_from p) was (sym a.bare_is ∙ e)
 
     -- and so is the caller

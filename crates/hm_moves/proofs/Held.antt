@@ -7,7 +7,8 @@ pub listed_cases : {A : Type 0} (l : List A) (o : Option A) (a : A) → Contains
     → Contains l a ⊎ (o ≡ Some a)
 listed_cases {A} l None a h = inl (subst (λ (m : List A). Contains m a) (append-nil l) h)
 listed_cases {A} l (Some b) a h =
-    ⊎_elim (λ (t : Contains l a). inl t) (λ (t : b ≡ a). inr (ap Some t)) (Contains-push_cases l b a h)
+    ⊎_elim (λ (t : Contains l a). inl t) (λ (t : b ≡ a). inr (ap Some t))
+    (Contains-push_cases l b a h)
 
 -- what holds of what there is, holds of it
 pub from_some : {A : Type 0} (P : A → Type 0) (o : Option A) (a : A) → o ≡ Some a → IfSome o P → P a
@@ -15,18 +16,21 @@ from_some P None a e h = cc
 from_some P (Some b) a e h = let is : b ≡ a = cc in subst P is h
 
 -- what holds of each that it may be, holds of what there is
-pub each_some : {A : Type 0} (P : A → Type 0) (o : Option A) → ((a : A) → o ≡ Some a → P a) → IfSome o P
+pub each_some : {A : Type 0} (P : A → Type 0) (o : Option A) → ((a : A) → o ≡ Some a → P a)
+    → IfSome o P
 each_some P None f = tt
 each_some P (Some a) f = f a refl
 
 -- what there is has what follows from what it has
-pub some_more : {A : Type 0} (P Q : A → Type 0) → ((a : A) → P a → Q a) → (o : Option A) → IfSome o P
+pub some_more : {A : Type 0} (P Q : A → Type 0) → ((a : A) → P a → Q a) → (o : Option A)
+    → IfSome o P
     → IfSome o Q
 some_more P Q f None h = tt
 some_more P Q f (Some a) h = f a h
 
 -- and so has what comes only where 0 was found
-pub zero_some : {A : Type 0} (P : A → Type 0) (o : Option A) (x : ℕ) → IfSome o P → IfSome (where_zero o x) P
+pub zero_some : {A : Type 0} (P : A → Type 0) (o : Option A) (x : ℕ) → IfSome o P
+    → IfSome (where_zero o x) P
 zero_some P None x h = tt
 zero_some P (Some a) zero h = h
 zero_some P (Some a) (suc v) h = tt
@@ -57,10 +61,12 @@ module _ {A : Type 0} where
 
   -- what passes a test was there
   pub filter_was : (f : A → Bool) (l : List A) (x : A) → Contains (filter f l) x → Contains l x
-  filter_was f l x h = All-contains (Contains l) (filter f l) x (All-filter f (Contains l) l (All-contains_itself l)) h
+  filter_was f l x h = All-contains (Contains l) (filter f l) x
+      (All-filter f (Contains l) l (All-contains_itself l)) h
 
   -- what was there and passes is there still
-  pub filter_still : (f : A → Bool) (l : List A) (x : A) → Contains l x → f x ≡ true → Contains (filter f l) x
+  pub filter_still : (f : A → Bool) (l : List A) (x : A) → Contains l x → f x ≡ true
+      → Contains (filter f l) x
   filter_still f [] x h pass = h
   filter_still f (y ∷ ys) x h pass = ⊎_elim
       (λ (e : y ≡ x). let here : f y ≡ true = ap f e ∙ pass in
@@ -71,7 +77,8 @@ module _ {A : Type 0} where
       (contains_first x y ys h)
 
 -- what stays held was held
-pub without_held : (held : List Known) (o : Option Known) (k : Known) → Contains (without held o) k → Contains
+pub without_held : (held : List Known) (o : Option Known) (k : Known) → Contains (without held o) k
+    → Contains
     held k
 without_held held None k h = h
 without_held held (Some m) k h = filter_was (λ (n : Known). not (is_version m n)) held k h
@@ -80,7 +87,8 @@ without_held held (Some m) k h = filter_was (λ (n : Known). not (is_version m n
 pub without_other : (held : List Known) (m k : Known) → Contains held k → k.version.0 ≢ m.version.0
     → Contains (without held (Some m)) k
 without_other held m k h ne =
-    filter_still (λ (n : Known). not (is_version m n)) held k h (ap not (ne_eqb k.version.0 m.version.0 ne))
+    filter_still (λ (n : Known). not (is_version m n)) held k h
+    (ap not (ne_eqb k.version.0 m.version.0 ne))
 
 -- no word of a new draft is written
 pub none_written : (j w : ℕ) → IsWritten nothing_written j w → ⊥
@@ -98,7 +106,8 @@ past (x ∷ xs) (suc j) h = past xs j (omega arith)
 pub written_low : (l : List (Option ℕ)) (j w : ℕ) → length l ≡ 16 → IsWritten l j w → j < 16
 written_low l j w wide h = grind (arith, past l j)
 
-unnamed_wide_from : (k : Known) (i : ℕ) (l : List (Option ℕ)) → length (unnamed_from k i l) ≡ length l
+unnamed_wide_from : (k : Known) (i : ℕ) (l : List (Option ℕ)) → length (unnamed_from k i l)
+    ≡ length l
 unnamed_wide_from k i [] = refl
 unnamed_wide_from k i (x ∷ xs) = ap suc (unnamed_wide_from k (i + 1) xs)
 
@@ -121,7 +130,8 @@ unnamed_was_from k i (x ∷ xs) zero w h = grind (arith, unless_was k i x w h)
 unnamed_was_from k i (x ∷ xs) (suc j) w h = grind (arith, unnamed_was_from k (i + 1) xs j w h)
 
 -- so for each word of a draft
-pub unnamed_was : (o : Option Known) (l : List (Option ℕ)) (j w : ℕ) → IsWritten (unnamed o l) j w → IsWritten
+pub unnamed_was : (o : Option Known) (l : List (Option ℕ)) (j w : ℕ) → IsWritten (unnamed o l) j w
+    → IsWritten
     l j w
 unnamed_was None l j w h = h
 unnamed_was (Some k) l j w h = (unnamed_was_from k 0 l j w h).0
@@ -140,12 +150,14 @@ names_without held (Some m) l j w h n (inr r) =
     inr (
       r.0,
       without_other held m r.0 r.1
-          (λ (e : r.0.version.0 ≡ m.version.0). unnamed_other m l j w h n (let is = r.2 in omega arith)),
+          (λ (e : r.0.version.0 ≡ m.version.0). unnamed_other m l j w h n
+          (let is = r.2 in omega arith)),
       r.2,
     )
 
 -- and where more are held
-pub names_more : (held held' : List Known) (w : ℕ) → ((k : Known) → Contains held k → Contains held' k)
+pub names_more : (held held' : List Known) (w : ℕ)
+    → ((k : Known) → Contains held k → Contains held' k)
     → Names held w → Names held' w
 names_more held held' w f (inl z) = inl z
 names_more held held' w f (inr r) = inr (r.0, f r.0 r.1, r.2)

@@ -20,7 +20,8 @@ pub calls_after : (q : ℕ) (h m : List Entry) (o : Option Entry) → IsBy q o �
 calls_after q h m o by is = let a = calls_of-append q h (listed o) in let b = calls_own q o by in cc
 
 -- and of another
-pub calls_beside : (p q : ℕ) (h m : List Entry) (o : Option Entry) → IsBy p o → p ≢ q → calls_of q h ≡ m
+pub calls_beside : (p q : ℕ) (h m : List Entry) (o : Option Entry) → IsBy p o → p ≢ q → calls_of q h
+    ≡ m
     → calls_of q (h ++ listed o) ≡ m
 calls_beside p q h m o by n is =
     let a = calls_of-append q h (listed o) in let b = calls_others p q o by n in
@@ -35,7 +36,8 @@ begins_more xs ys zs b = record {
 
 -- a beginning of a beginning
 pub begins_on : (xs ys zs : List Entry) → Begins xs ys → Begins ys zs → Begins xs zs
-begins_on xs ys zs a b = subst (λ (l : List Entry). Begins xs l) (sym b.is) (begins_more xs ys b.rest a)
+begins_on xs ys zs a b = subst (λ (l : List Entry). Begins xs l) (sym b.is)
+    (begins_more xs ys b.rest a)
 
 -- a list begins with itself
 pub begins_self : (xs : List Entry) → Begins xs xs
@@ -45,7 +47,8 @@ abbrev Below : ℕ → Entry → Type 0
 Below n e = caller_of e < n
 
 -- lists of callers below a number
-pub below-append : (n : ℕ) (xs ys : List Entry) → AreBelow n xs → AreBelow n ys → AreBelow n (xs ++ ys)
+pub below-append : (n : ℕ) (xs ys : List Entry) → AreBelow n xs → AreBelow n ys
+    → AreBelow n (xs ++ ys)
 below-append n [] ys h k = k
 below-append n (x ∷ xs) ys h k =
     All-cons (Below n) x (xs ++ ys) (All-head (Below n) x xs h)
@@ -71,8 +74,10 @@ pub none_made : (n : ℕ) (es : List Entry) → AreBelow n es → ((q : ℕ) →
     → es ≡ []
 none_made n [] h none = refl
 none_made n (e ∷ es) h none =
-    let here : calls_of (caller_of e) (e ∷ es) ≡ [] = none (caller_of e) (All-head (Below n) e es h) in
-    let is : (e ∷ calls_of (caller_of e) es) ≡ [] = rw (eq-eqb (caller_of e) (caller_of e) refl) at here in cc
+    let here : calls_of (caller_of e) (e ∷ es) ≡ [] = none (caller_of e)
+    (All-head (Below n) e es h) in
+    let is : (e ∷ calls_of (caller_of e) es) ≡ [] = rw (eq-eqb (caller_of e) (caller_of e) refl) at
+    here in cc
 
 -- a list that another behind it does not lengthen
 pub nothing_more : (xs ys : List Entry) → xs ++ ys ≡ xs → ys ≡ []
@@ -104,7 +109,8 @@ begins_shorter (x ∷ xs) (y ∷ ys) h r s e f le =
 -- the longer of two beginnings is one
 pub begins_longer : (xs ys h : List Entry) → Begins xs h → Begins ys h → Begins (longer xs ys) h
 begins_longer xs ys h b d =
-    elim (nat_lt (length xs) (length ys)) as (λ t. Begins (if t then ys else xs) h) [ true ↦ d | false ↦ b ]
+    elim (nat_lt (length xs) (length ys)) as (λ t. Begins (if t then ys else xs) h)
+    [ true ↦ d | false ↦ b ]
 
 -- either of two beginnings of one history begins the longer of them
 pub left_begins : (xs ys h : List Entry) → Begins xs h → Begins ys h → Begins xs (longer xs ys)
@@ -133,7 +139,8 @@ same_start (e ∷ a) x y h = same_start a x y (cc)
 
 module _ (lawful : PlainStore → Type 0) (allowed : PlainStore → Entry → Type 0) where
   -- the store before entries that come, and behind which a lawful one is left, is lawful
-  lawful_first : (s : PlainStore) (es : List Entry) → AllCome lawful allowed s es → lawful (store_after s es)
+  lawful_first : (s : PlainStore) (es : List Entry) → AllCome lawful allowed s es
+      → lawful (store_after s es)
       → lawful s
   lawful_first s [] h now = now
   lawful_first s (e ∷ es) h now = h.0.store
@@ -153,12 +160,14 @@ module _ (lawful : PlainStore → Type 0) (allowed : PlainStore → Entry → Ty
       (all_come_parts lawful allowed (store_of opening) b.rest rest all).1
 
   -- a beginning that has the opening is lawful
-  pub lawful_before : (start : Start) (seen h : List Entry) → Begins (opening_of start) seen → Begins seen h
+  pub lawful_before : (start : Start) (seen h : List Entry) → Begins (opening_of start) seen
+      → Begins seen h
       → IsLawful lawful allowed start h → IsLawful lawful allowed start seen
   lawful_before start seen h b d k =
       let opening : List Entry = opening_of start in
       let is : k.legal.rest ≡ b.rest ++ d.rest = same_start opening k.legal.rest (b.rest ++ d.rest)
-      (let a = k.legal.begins in let e = d.is in let f = b.is in let c = append_assoc opening b.rest d.rest in cc) in
+      (let a = k.legal.begins in let e = d.is in let f = b.is in let c = append_assoc opening b.rest
+      d.rest in cc) in
       let come : AllCome lawful allowed (store_of opening) (b.rest ++ d.rest) =
       subst (λ (l : List Entry). AllCome lawful allowed (store_of opening) l) is k.come in
       let stand : AllStand [] (seen ++ d.rest) = subst (AllStand []) d.is k.legal.stand in
@@ -166,7 +175,11 @@ module _ (lawful : PlainStore → Type 0) (allowed : PlainStore → Entry → Ty
       (ap store_of d.is ∙ store_after-append [] seen d.rest) k.now in
       let behind = come_behind start seen d.rest b (subst (IsLawful lawful allowed start) d.is k) in
       record {
-        legal = record { rest = b.rest; begins = b.is; stand = (all_stand_parts [] seen d.rest stand).0 };
+        legal = record {
+          rest = b.rest;
+          begins = b.is;
+          stand = (all_stand_parts [] seen d.rest stand).0;
+        };
         come = (all_come_parts lawful allowed (store_of opening) b.rest d.rest come).0;
         now = lawful_first (store_of seen) d.rest behind now;
       }
@@ -174,7 +187,8 @@ module _ (lawful : PlainStore → Type 0) (allowed : PlainStore → Entry → Ty
   -- an entry that its caller may make, and that stands in the present store, may come
   pub come_now : (start : Start) (q : ℕ) (mine h seen : List Entry) (e : Entry) → Begins seen h
       → HasCalls start q mine h seen → IsLawful lawful allowed start h
-      → MayMake lawful allowed seen q e → Stands (store_of h) e → MayCome lawful allowed (store_of h) e
+      → MayMake lawful allowed seen q e → Stands (store_of h) e → MayCome lawful allowed
+      (store_of h) e
   come_now start q mine h seen e b calls good may stands =
       let here : store_of h ≡ store_after (store_of seen) b.rest = ap store_of b.is
       ∙ store_after-append [] seen b.rest in
@@ -197,4 +211,5 @@ module _ (lawful : PlainStore → Type 0) (allowed : PlainStore → Entry → Ty
   pub lawful_with : UsageLaws lawful allowed → (start : Start) (h : List Entry) (e : Entry)
       → IsLawful lawful allowed start h → MayCome lawful allowed (store_of h) e
       → IsLawful lawful allowed start (h ++ e ∷ [])
-  lawful_with laws start h e good may = lawful_more lawful allowed laws start h (e ∷ []) good (may, tt)
+  lawful_with laws start h e good may = lawful_more lawful allowed laws start h (e ∷ []) good
+      (may, tt)

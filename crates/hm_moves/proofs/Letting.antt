@@ -3,7 +3,8 @@ use Rattle.std.proofs.Common.{List, Option, ◌∙◌}
 use Rattle.hm_moves.proofs.Words.{Entry, Known, Site, Part, Heap, letting, PartIsGood}
 use Rattle.hm_moves.proofs.Held.{names_without, unnamed_was, unnamed_wide, without_held}
 
-module _ {U : Type 0} (g : Site U) (h : Heap) (seen : List Entry) (p : Part U) (o : Option Known) where
+module _ {U : Type 0} (g : Site U) (h : Heap) (seen : List Entry) (p : Part U)
+    (o : Option Known) where
   -- a caller is good still
   pub letting_good : PartIsGood g h seen p → PartIsGood g h seen (letting p o)
   letting_good good = record {

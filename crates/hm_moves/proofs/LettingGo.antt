@@ -46,7 +46,8 @@ abbrev pub passes_as : (Version → Bool) → Option Known → Bool
 passes_as test None = false
 passes_as test (Some k) = test k.version
 
-version_there : (test : Version → Bool) (l : List Known) (k : Known) → list_any (is_version k) l ≡ true
+version_there : (test : Version → Bool) (l : List Known) (k : Known) → list_any (is_version k) l
+    ≡ true
     → test k.version ≡ true → list_any (λ m. test m.version) l ≡ true
 version_there test [] k h e = grind arith
 version_there test (x ∷ xs) k h e = ⊎_elim
@@ -61,11 +62,13 @@ version_there test (x ∷ xs) k h e = ⊎_elim
 
 -- a test passes with one version more where it passes for that, or before
 pub any_held : (test : Version → Bool) (l : List Known) (o : Option Known)
-    → list_any (λ m. test m.version) (with_held l o) ≡ (list_any (λ m. test m.version) l || passes_as test o)
+    → list_any (λ m. test m.version) (with_held l o)
+    ≡ (list_any (λ m. test m.version) l || passes_as test o)
 any_held test l None = grind arith
 any_held test l (Some k) = ⊎_elim
     (λ (t : list_any (is_version k) l ≡ true). rw t (⊎_elim
-    (λ (e : test k.version ≡ true). let there = version_there test l k t e in grind (arith, there, e))
+    (λ (e : test k.version ≡ true). let there = version_there test l k t e in
+    grind (arith, there, e))
     (λ (e : test k.version ≡ false). grind (arith, e))
     (cases_Bool (test k.version))))
     (λ (t : list_any (is_version k) l ≡ false). rw t
@@ -78,10 +81,11 @@ pub any_with : (l : List Known) (o : Option Known) (v : ℕ)
 any_with l None v = any_held (λ n. version_shown n == v) l None
 any_with l (Some k) v = any_held (λ n. version_shown n == v) l (Some k)
 
--- nothing of from-space was held before a version is let go, where nothing is afterwards, and nothing was
--- first
+-- nothing of from-space was held before a version is let go, where nothing is afterwards, and
+-- nothing was first
 pub none_before : (test : Version → Bool) (l r : List Known) (f p : Option Known)
-    → list_any (λ m. test m.version) l ≡ false → list_any (λ m. test m.version) (with_held (with_held r f) p)
+    → list_any (λ m. test m.version) l ≡ false → list_any (λ m. test m.version)
+    (with_held (with_held r f) p)
     ≡ false
     → list_any (λ m. test m.version) (with_held (with_held l f) p) ≡ false
 none_before test l r f p first now =
@@ -95,16 +99,16 @@ pub any_without : (l : List Known) (k : Known) (v : ℕ)
     → list_any (shows_as v) (without l (Some k))
     ≡ (list_any (shows_as v) l && not (v == version_shown k.version))
 any_without [] k v = grind arith
-any_without (x ∷ xs) k v = let rest = any_without xs k v in grind (arith, common_steps, nat_tests, rest)
+any_without (x ∷ xs) k v = let rest = any_without xs k v in
+    grind (arith, common_steps, nat_tests, rest)
 
 both_let : (l f p g q e : Bool) → (e ≡ true → (f ≡ g) × (p ≡ q))
     → ((l && not e || f) || p) ≡ (((l || f) || p) && ((g || q) || not e))
 both_let l f p g q true h = let same = h refl in grind (arith, same)
 both_let l f p g q false h = grind arith
 
--- what is held after a version is let go, and then one is found and one published: what was let go stays
--- where
--- it is one of these
+-- what is held after a version is let go, and then one is found and one published: what was let go
+-- stays where it is one of these
 pub held_let : (l : List Known) (k : Known) (f p : Option Known) (v : ℕ)
     → list_any (shows_as v) (with_held (with_held (without l (Some k)) f) p)
     ≡ (list_any (shows_as v) (with_held (with_held l f) p)
@@ -119,9 +123,11 @@ held_let l k f p v =
     let e = any_with l f v in
     let same : (v == w) ≡ true → (matches f v ≡ matches f w) × (matches p v ≡ matches p w) =
     λ t. let is = eqb-true v w t in (ap (matches f) is, ap (matches p) is) in
-    let left = a ∙ ap (λ (z : Bool). z || matches p v) (b ∙ ap (λ (z : Bool). z || matches f v) c) in
+    let left = a ∙ ap (λ (z : Bool). z || matches p v)
+    (b ∙ ap (λ (z : Bool). z || matches f v) c) in
     let right = d ∙ ap (λ (z : Bool). z || matches p v) e in
-    left ∙ (both_let (list_any (shows_as v) l) (matches f v) (matches p v) (matches f w) (matches p w)
+    left ∙ (both_let (list_any (shows_as v) l) (matches f v) (matches p v) (matches f w)
+    (matches p w)
     (v == w) same
     ∙ ap (λ (z : Bool). z && ((matches f w || matches p w) || not (v == w))) (sym right))
 
@@ -169,7 +175,8 @@ some_was None x e = cc
 some_was (Some b) x e = refl
 
 -- a caller's list of held versions is replaced
-pub indexed_held : (s : Shape) (q : ℕ) (index : Index) (places : Places) (hands : Hands) (held : List Known)
+pub indexed_held : (s : Shape) (q : ℕ) (index : Index) (places : Places) (hands : Hands)
+    (held : List Known)
     → AreIndexed s q index places hands → ((k : Known) → Contains held k → IsPublished index k)
     → AreIndexed s q index places (record hands { held = held })
 indexed_held s q index places hands held a f = record {
@@ -237,8 +244,10 @@ module _ {U : Type 0} (s : Shape) (h : Heap) (moves : ℕ → ℕ) (y : State) (
         holds = λ is. absurd (true≢false (sym is));
       };
       hands = record {
-        held = λ v. row_here y.hands.held q (λ other. y.hands.held q other && (stays || not (other == w))) v
-            ∙ (ap (λ (t : Bool). t && (stays || not (v == w))) (mine.hands.held v) ∙ sym (held_is v));
+        held = λ v. row_here y.hands.held q
+            (λ other. y.hands.held q other && (stays || not (other == w))) v
+            ∙ (ap (λ (t : Bool). t && (stays || not (v == w))) (mine.hands.held v)
+            ∙ sym (held_is v));
         next = mine.hands.next;
         written = λ f lower room some.
             let is = written_is f lower room some in
@@ -259,13 +268,16 @@ module _ {U : Type 0} (s : Shape) (h : Heap) (moves : ℕ → ℕ) (y : State) (
         (λ i none. (mine.scan.bare (still i none), refl)) in
         record {
           state = after y q b (LookStep (LetGo w stays));
-          rule = rule_bare s h moves y (LookStep (LetGo w stays)) new was rule below tt shown unbared_shown
+          rule = rule_bare s h moves y (LookStep (LetGo w stays)) new was rule below tt shown
+              unbared_shown
               placed hands
               (λ i none. (mine.scan.bare (still i none), refl));
-          heap = heap_bared s h moves y (LookStep (LetGo w stays)) new was rule below tt shown unbared_shown
+          heap = heap_bared s h moves y (LookStep (LetGo w stays)) new was rule below tt shown
+              unbared_shown
               placed hands
               (λ i none. (mine.scan.bare (still i none), refl));
-          own = part_bared s h moves y (LookStep (LetGo w stays)) new was rule below tt shown unbared_shown
+          own = part_bared s h moves y (LookStep (LetGo w stays)) new was rule below tt shown
+              unbared_shown
               placed hands
               (λ i none. (mine.scan.bare (still i none), refl));
           others = λ r ne was_shown. shown_else s moves y (after y q b (LookStep (LetGo w stays))) r
@@ -275,19 +287,24 @@ module _ {U : Type 0} (s : Shape) (h : Heap) (moves : ℕ → ℕ) (y : State) (
   -- what is let go is named by no word that stays written
   other_word : (kept : List Known) → IsDrafting s a.number a.draft kept h → (k : Known) (f : ℕ)
       → f < field_count
-      → HasRoom a → (x : ℕ) → slice_index_or (unnamed (Some k) a.draft.written) (field_word f) None ≡ Some x
+      → HasRoom a → (x : ℕ) → slice_index_or (unnamed (Some k) a.draft.written) (field_word f) None
+      ≡ Some x
       → y.versions.word (y.hands.next a.number) f ≢ version_shown k.version
   other_word kept drafting k f lower room x is =
       let next : Version = version_at s a.number a.draft.region a.draft.used in
-      let left : a.draft.used < s.versions = subst (λ (t : Shape). a.draft.used < t.versions) mine.shape
+      let left : a.draft.used < s.versions = subst (λ (t : Shape). a.draft.used < t.versions)
+      mine.shape
       room in
-      let small : next.0 < version_count s = version_below s (row_of s a.number a.draft.region) a.draft.used
+      let small : next.0 < version_count s = version_below s (row_of s a.number a.draft.region)
+      a.draft.used
       (row_below s a.number a.draft.region low drafting.region) left in
       let next_is : y.hands.next a.number ≡ version_shown next = mine.hands.next ∙ (next_room room
-      ∙ ap (λ (t : Shape). version_shown (version_at t a.number a.draft.region a.draft.used)) mine.shape) in
+      ∙ ap (λ (t : Shape). version_shown (version_at t a.number a.draft.region a.draft.used))
+      mine.shape) in
       let word : y.versions.word (y.hands.next a.number) f ≡ x =
       ap (λ (n : ℕ). y.versions.word n f) next_is ∙ (shows.words next f small lower
-      ∙ drafting.written left (field_word f) x (unnamed_was (Some k) a.draft.written (field_word f) x is)) in
+      ∙ drafting.written left (field_word f) x
+      (unnamed_was (Some k) a.draft.written (field_word f) x is)) in
       let other = unnamed_other k a.draft.written (field_word f) x is (field_naming f lower) in
       λ e. other (let same : naming_word (Some k.version) ≡ version_shown k.version = omega arith in
       sym word ∙ (e ∙ sym same))
@@ -300,20 +317,25 @@ module _ {U : Type 0} (s : Shape) (h : Heap) (moves : ℕ → ℕ) (y : State) (
       → y.versions.word (y.hands.next a.number) f ≢ suc (version_count s)
   beyond_word f written e =
       let held : y.hands.held a.number (suc (version_count s)) ≡ true =
-      ap (y.hands.held a.number) (sym e) ∙ (rule.drafted a.number).held f written (λ z. omega arith) in
+      ap (y.hands.held a.number) (sym e) ∙ (rule.drafted a.number).held f written
+      (λ z. omega arith) in
       let b = at_live s h moves y shows rule (version_count s)
       (rule.safe.held a.number (suc (version_count s)) below held) in
       let small = version_below s b.0 b.1 b.2 b.3 in let at = b.4 in omega arith
 
-  -- a caller lets go of a version, or of none, that held just l, before it found and published these
-  pub let_go : (was : Bool) (l : List Known) (f p : Option Known) → a.hands.held ≡ with_held (with_held l f) p
+  -- a caller lets go of a version, or of none, that held just l, before it found and published
+  -- these
+  pub let_go : (was : Bool) (l : List Known) (f p : Option Known) → a.hands.held
+      ≡ with_held (with_held l f) p
       → (kept : List Known) → IsDrafting s a.number a.draft kept h → (o : Option Known)
       → AreIndexed s a.number h.index h.places
       (record a.hands { held = with_held (with_held (without l o) f) p })
-      → (was ≡ true → list_any (λ k. known_from a k.version) (with_held (with_held (without l o) f) p) ≡ false
+      → (was ≡ true → list_any (λ k. known_from a k.version)
+      (with_held (with_held (without l o) f) p) ≡ false
       → a.cycle.scan.bare ≡ true)
       → Stepped s h moves moves y
-      (bared was (with_hands a (unnamed o a.draft.written) (with_held (with_held (without l o) f) p)))
+      (bared was
+      (with_hands a (unnamed o a.draft.written) (with_held (with_held (without l o) f) p)))
   let_go was l f p is kept drafting None hands still = let_step was (suc (version_count s)) true
       a.draft.written
       (with_held (with_held l f) p) hands
@@ -327,7 +349,8 @@ module _ {U : Type 0} (s : Shape) (h : Heap) (moves : ℕ → ℕ) (y : State) (
       ∙ ap (λ (z : Bool). z && ((matches f w || matches p w) || not (v == w)))
       (ap (list_any (shows_as v)) (sym is)))
       (λ i lower room some.
-      let r = some_there (slice_index_or (unnamed (Some k) a.draft.written) (field_word i) None) some in (
+      let r = some_there (slice_index_or (unnamed (Some k) a.draft.written) (field_word i) None)
+      some in (
         some_was (slice_index_or a.draft.written (field_word i) None) r.0
             (unnamed_was (Some k) a.draft.written (field_word i) r.0 r.1),
         other_word kept drafting k i lower room r.0 r.1,

@@ -13,8 +13,10 @@ pub mod Shorter
 pub mod Entries
 -- a look or a build: the heap, what is found, and the callers
 pub mod Heaps
+pub mod HeapSteps
 pub mod Finding
 pub mod Parts
+pub mod OtherParts
 pub mod Replaced
 pub mod Worked
 -- words that are packed, and numbers of rows and names
@@ -32,6 +34,7 @@ pub mod Taking
 pub mod LettingGo
 pub mod ShownLetting
 pub mod Looking
+pub mod Loading
 pub mod ShownLooks
 -- after a build
 pub mod Fields
@@ -49,7 +52,9 @@ pub mod TickParts
 pub mod ShownTicks
 -- after a step on roles
 pub mod Rows
+pub mod StoredRoles
 pub mod ShiftHeaps
+pub mod ShiftScans
 pub mod ShiftParts
 pub mod ShownShifts
 -- what stays where versions die, and the heap and the callers after these steps
@@ -57,6 +62,9 @@ pub mod Dying
 pub mod Ticked
 pub mod ShiftRows
 pub mod Shifted
+pub mod OwnShifted
+-- what a scan has met stays so
+pub mod Meeting
 -- letting go, splits and joins
 pub mod Letting
 pub mod Released
@@ -72,6 +80,7 @@ pub mod Opening
 pub mod FreshMachine
 pub mod FirstWords
 pub mod Reaching
+pub mod Standing
 pub mod Cycled
 pub mod Safe
 pub mod Ends

@@ -66,7 +66,8 @@ kept_not_from Old e = refl
 kept_not_from From e = grind arith
 
 -- what a list contains passes where one of it does
-pub any_contains : {A : Type 0} (f : A → Bool) (l : List A) (a : A) → Contains l a → f a ≡ true → list_any f l
+pub any_contains : {A : Type 0} (f : A → Bool) (l : List A) (a : A) → Contains l a → f a ≡ true
+    → list_any f l
     ≡ true
 any_contains f [] a h e = let low = h.1 in absurd (omega arith)
 any_contains f (x ∷ xs) a (zero, low, is) e = grind arith
@@ -74,7 +75,8 @@ any_contains f (x ∷ xs) a (suc k, low, is) e =
     let rest : list_any f xs ≡ true = any_contains f xs a (k, (omega arith), is) e in grind arith
 
 -- and one passes where one of a list does
-pub any_found : {A : Type 0} (f : A → Bool) (l : List A) → list_any f l ≡ true → (a : A) × Contains l a
+pub any_found : {A : Type 0} (f : A → Bool) (l : List A) → list_any f l ≡ true → (a : A)
+    × Contains l a
     × (f a ≡ true)
 any_found f [] e = grind arith
 any_found f (x ∷ xs) e = ⊎_elim
@@ -92,10 +94,12 @@ some_there (Some a) h = (a, refl)
 mask_from : (o : Option Roles) (g : ℕ) (loaded from : Bool) → loaded ≡ is_some o
     → (loaded ≡ true → from ≡ gives_from o g) → (loaded && from) ≡ gives_from o g
 mask_from None g loaded from e f = grind (arith, e)
-mask_from (Some r) g loaded from e f = let l : loaded ≡ true = e in let is = f l in grind (arith, l, is)
+mask_from (Some r) g loaded from e f = let l : loaded ≡ true = e in let is = f l in
+    grind (arith, l, is)
 
 -- what the masks of a caller say of a version, they say in the state
-pub from_scan : {U : Type 0} (x : State) (p : Part U) → x.shape ≡ shape_shown p.site.shape → ShowsScan p x
+pub from_scan : {U : Type 0} (x : State) (p : Part U) → x.shape ≡ shape_shown p.site.shape
+    → ShowsScan p x
     → (v : Version) → v.0 < version_count p.site.shape
     → rounds.known_from x.shape x.masks p.number (version_shown v) ≡ known_from p v
 from_scan x p shape scan v low =
@@ -122,7 +126,8 @@ from_scan x p shape scan v low =
     (scan.loaded q r.2) (scan.from q g r.2 r.3) ∙ sym here)
 
 -- a number is before another where it is so one higher
-before_shown : (r : Option Reply) (number replied : ℕ) (kind : phases.Reply) → IsReplyOf r replied kind
+before_shown : (r : Option Reply) (number replied : ℕ) (kind : phases.Reply) → IsReplyOf r replied
+    kind
     → nat_lt replied (number + 1) ≡ is_before r number
 before_shown None number replied kind e = lt-ltb replied (number + 1) (omega arith)
 before_shown (Some r) number replied kind e = let is = e.0 in grind (arith, nat_tests, is)
@@ -148,7 +153,8 @@ scanning_shown moves x p shown =
 
 module _ (s : Shape) (h : Heap) (moves : ℕ → ℕ) (x : State) (shows : ShowsHeap s h moves x) where
   -- a version lies in the row of its number
-  pub region_is : (v row i : ℕ) → i < s.versions → v ≡ row * s.versions + i → x.shape.region (suc v) ≡ row
+  pub region_is : (v row i : ℕ) → i < s.versions → v ≡ row * s.versions + i → x.shape.region (suc v)
+      ≡ row
   region_is v row i low is = ap (λ z. z.region (suc v)) shows.shape ∙ region_of_shown s v
       ∙ (ap (λ (n : ℕ). n / s.versions) is ∙ row_in_place s row i low)
 
@@ -211,7 +217,8 @@ module _ (s : Shape) (h : Heap) (moves : ℕ → ℕ) (x : State) (shows : Shows
           ⊎_elim
               (λ (t : h.places.dead row ≡ true).
               let both = and_parts (is_from (h.places.role row))
-              (nat_lt (x.ties.done (owner_shown s row)) x.clock.done) (sym (shows.dead row b.2) ∙ t) in
+              (nat_lt (x.ties.done (owner_shown s row)) x.clock.done)
+              (sym (shows.dead row b.2) ∙ t) in
               let before = ltb-true (x.ties.done (owner_shown s row)) x.clock.done both.1 in
               let ties : x.ties.done (x.shape.owner (x.shape.region (suc v)))
               ≡ x.ties.done (owner_shown s row) =
@@ -255,7 +262,8 @@ module _ (s : Shape) (h : Heap) (moves : ℕ → ℕ) (x : State) (shows : Shows
           )
 
       -- a published version is live
-      pub published_live : (k : Known) → IsPublished h.index k → rounds.Live x (version_shown k.version)
+      pub published_live : (k : Known) → IsPublished h.index k
+          → rounds.Live x (version_shown k.version)
       published_live k there = let b = place_of_published k there in
           live_at k.version.0 b.0 b.1 b.2 b.3 b.4 b.5 b.6
 
@@ -264,7 +272,8 @@ module _ (s : Shape) (h : Heap) (moves : ℕ → ℕ) (x : State) (shows : Shows
           × (k.version.0 ≡ v)
       live_published v live =
           let b = at_live v live in
-          let k = some_there (h.index (b.0 * s.versions + b.1)) (placed.taken b.0 b.1 b.2 b.6 b.5) in
+          let k = some_there (h.index (b.0 * s.versions + b.1))
+          (placed.taken b.0 b.1 b.2 b.6 b.5) in
           let here : h.index v ≡ Some k.0 = ap h.index b.4 ∙ k.1 in
           let number : k.0.version.0 ≡ v = placed.numbered v k.0 here in
           (k.0, ap h.index number ∙ here, number)
@@ -281,9 +290,11 @@ module _ (s : Shape) (h : Heap) (moves : ℕ → ℕ) (x : State) (shows : Shows
       }
 
       module _ {U : Type 0} (p : Part U) (mine : ShowsPart s moves x p)
-          (hands : AreIndexed s p.number h.index h.places p.hands) (low : p.number < s.callers) where
+          (hands : AreIndexed s p.number h.index h.places p.hands)
+          (low : p.number < s.callers) where
         -- a caller's own versions are so in the state
-        pub own_mine : (k : Known) → Contains p.hands.own k → rounds.Mine x p.number (version_shown k.version)
+        pub own_mine : (k : Known) → Contains p.hands.own k → rounds.Mine x p.number
+            (version_shown k.version)
         own_mine k own =
             let is = hands.own k own in
             let v : ℕ = k.version.0 in
@@ -306,14 +317,16 @@ module _ (s : Shape) (h : Heap) (moves : ℕ → ℕ) (x : State) (shows : Shows
         kept_back row low e = sym (kept_shown (h.places.role row))
             ∙ (ap phases.is_kept (sym (shows.role row low)) ∙ e)
 
-        mine_in : (v row i : ℕ) → row < row_count s → i < s.versions → v ≡ row * s.versions + i → (k : Known)
+        mine_in : (v row i : ℕ) → row < row_count s → i < s.versions → v ≡ row * s.versions + i
+            → (k : Known)
             → IsPublished h.index k → k.version.0 ≡ v → rounds.Mine x p.number (suc v)
             → Contains p.hands.own k
         mine_in v row i below small is k there number own =
             let parts = row_parts s row below in
             let at = region_is v row i small is in
             let owner : parts.0 ≡ p.number =
-            sym (ap x.shape.owner (at ∙ parts.4) ∙ owner_at parts.0 parts.1 parts.2 parts.3) ∙ own.is_owner in
+            sym (ap x.shape.owner (at ∙ parts.4) ∙ owner_at parts.0 parts.1 parts.2 parts.3)
+            ∙ own.is_owner in
             let row_is : row ≡ row_of s p.number parts.1 =
             parts.4 ∙ ap (λ (n : ℕ). row_of s n parts.1) owner in
             let place : k.version.0 ≡ row_of s p.number parts.1 * s.versions + i =
@@ -354,7 +367,8 @@ module _ (s : Shape) (h : Heap) (moves : ℕ → ℕ) (x : State) (shows : Shows
         pub held_shown : (k : Known) → Contains p.hands.held k
             → x.hands.held p.number (version_shown k.version) ≡ true
         held_shown k held = mine.hands.held (version_shown k.version)
-            ∙ any_contains (λ m. version_shown m.version == version_shown k.version) p.hands.held k held
+            ∙ any_contains (λ m. version_shown m.version == version_shown k.version) p.hands.held k
+            held
             (eq-eqb (version_shown k.version) (version_shown k.version) refl)
 
         -- and no others
@@ -366,12 +380,14 @@ module _ (s : Shape) (h : Heap) (moves : ℕ → ℕ) (x : State) (shows : Shows
             (r.0, r.1, let e = eqb-true (version_shown r.0.version) (suc v) r.2 in omega arith)
 
         -- what it may look into it may there
-        pub look_may : (k : Known) → MayLookInto p k → allowed.MayLook x p.number (version_shown k.version)
+        pub look_may : (k : Known) → MayLookInto p k → allowed.MayLook x p.number
+            (version_shown k.version)
         look_may k may = ⊎_elim (λ (t : Contains p.hands.held k). inl (held_shown k t))
             (λ (t : Contains p.hands.own k). inr (own_mine k t)) may
 
   -- what a caller knows as from-space it knows so there
-  pub from_shown : {U : Type 0} (p : Part U) → ShowsPart s moves x p → (v : Version) → v.0 < version_count s
+  pub from_shown : {U : Type 0} (p : Part U) → ShowsPart s moves x p → (v : Version)
+      → v.0 < version_count s
       → rounds.known_from x.shape x.masks p.number (version_shown v) ≡ known_from p v
   from_shown p mine v low = from_scan x p
       (subst (λ (z : Shape). x.shape ≡ shape_shown z) (sym mine.shape) shows.shape) mine.scan v

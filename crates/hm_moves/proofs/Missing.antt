@@ -41,7 +41,8 @@ module _ {U : Type 0} {h : Heap} {seen : List Entry} {p : Part U} {moves : ℕ �
 
   -- an exchange that fails finds a version
   module _ (at k : Known) (entry : Option Entry) (n : ℕ) (look : MayLookInto p at)
-      (link : suc n ≡ link_of its h.words at) (low : AreLow ready by_scan o (LinkStore at k entry) (suc n))
+      (link : suc n ≡ link_of its h.words at)
+      (low : AreLow ready by_scan o (LinkStore at k entry) (suc n))
     where
       missed_words : slice_set h.words (word_at its at.version 0) (suc n) ≡ h.words
       missed_words = same_word h.words (word_at its at.version 0) (suc n) link
@@ -76,7 +77,8 @@ module _ {U : Type 0} {h : Heap} {seen : List Entry} {p : Part U} {moves : ℕ �
       miss_held : (v : ℕ) → (turned.after x me b_missed miss_step).hands.held me v
           ≡ ((any_shown p.hands.held v || shown_as (h.index n) v) || false)
       miss_held v = row_same x.hands.held me
-          (λ other. x.hands.held me other || ((other == x.versions.word (version_shown at.version) 0)
+          (λ other. x.hands.held me other
+          || ((other == x.versions.word (version_shown at.version) 0)
           && not (x.versions.word (version_shown at.version) 0 == 0))) v
           ∙ (ap (λ (z : ℕ). x.hands.held me v || ((v == z) && not (z == 0))) missed_word
           ∙ (ap (λ (t : Bool). x.hands.held me v || ((v == suc n) && not t))
@@ -90,7 +92,8 @@ module _ {U : Type 0} {h : Heap} {seen : List Entry} {p : Part U} {moves : ℕ �
           held_more false true = refl
           held_more false false = refl
 
-      miss_meets : meets_from x me (x.versions.word (version_shown at.version) 0) ≡ meets p (h.index n)
+      miss_meets : meets_from x me (x.versions.word (version_shown at.version) 0)
+          ≡ meets p (h.index n)
       miss_meets =
           let small = low_there ready missed linked.2.published in
           ap (meets_from x me) missed_word
@@ -109,8 +112,10 @@ module _ {U : Type 0} {h : Heap} {seen : List Entry} {p : Part U} {moves : ℕ �
             x.uses x.versions x.store (turned.after x me b_missed miss_step).scan
             (turned.after x me b_missed miss_step).hands (turned.after x me b_missed miss_step).bare
             (good_step x me b_missed miss_step take ready.rules)
-            (heap_rewritten its h moves x ready.shows (slice_set h.words (word_at its at.version 0) (suc n))
-            (h.history ++ listed (where_zero entry (suc n))) (head_else its h.words at.version 0 (suc n))
+            (heap_rewritten its h moves x ready.shows
+            (slice_set h.words (word_at its at.version 0) (suc n))
+            (h.history ++ listed (where_zero entry (suc n)))
+            (head_else its h.words at.version 0 (suc n))
             x.versions.word
             (λ v f small few. ready.shows.words v f small few
             ∙ ap (λ (l : List ℕ). slice_index l (word_at its v (field_word f))) (sym missed_words))
@@ -118,7 +123,8 @@ module _ {U : Type 0} {h : Heap} {seen : List Entry} {p : Part U} {moves : ℕ �
             (turned.after x me b_missed miss_step).bare (entry_missed entry n))
             (put_same x.scan.mark me
             (x.scan.mark me || meets_from x me (x.versions.word (version_shown at.version) 0))
-            ∙ (ap (λ (t : Bool). t || meets_from x me (x.versions.word (version_shown at.version) 0))
+            ∙ (ap (λ (t : Bool). t || meets_from x me
+            (x.versions.word (version_shown at.version) 0))
             ready.part.scan.mark
             ∙ ap (λ (t : Bool). p.cycle.scan.mark || t) miss_meets))
             (passed_before ready None) (short_before ready None) refl miss_held (next_stays ready)
@@ -131,7 +137,11 @@ module _ {U : Type 0} {h : Heap} {seen : List Entry} {p : Part U} {moves : ℕ �
           take : MayTake x me b_missed miss_step
           take = record {
             below = me_below ready;
-            allowed = (look_into ready at look, λ e. (let all = sym missed_word ∙ e in omega (arith, all)));
-            truly = may_be_bare_then ready by_scan o (LinkStore at k entry) (suc n) (h.index n) low miss_step
+            allowed = (
+              look_into ready at look,
+              λ e. (let all = sym missed_word ∙ e in omega (arith, all)),
+            );
+            truly = may_be_bare_then ready by_scan o (LinkStore at k entry) (suc n) (h.index n) low
+                miss_step
                 refl miss_held refl;
           }

@@ -21,9 +21,11 @@ same_side s t m n e a b =
 pub name_once : (n m : Name) → name_shown n ≡ name_shown m → n ≡ m
 name_once n m e =
     let side : n.maker + n.count ≡ m.maker + m.count =
-    same_side (n.maker + n.count) (m.maker + m.count) n.maker m.maker (omega (arith, e)) (omega arith)
+    same_side (n.maker + n.count) (m.maker + m.count) n.maker m.maker (omega (arith, e))
+    (omega arith)
     (omega arith) in
-    let square : (n.maker + n.count) * (n.maker + n.count) ≡ (m.maker + m.count) * (m.maker + m.count) =
+    let square : (n.maker + n.count) * (n.maker + n.count)
+    ≡ (m.maker + m.count) * (m.maker + m.count) =
     λ i. side i * side i in
     let maker : n.maker ≡ m.maker = omega (arith, e, square) in
     let count : n.count ≡ m.count = omega (arith, side, maker) in

@@ -57,13 +57,15 @@ module _ (s : Shape) where
   region_of_shown v = let same : suc v - 1 ≡ v = omega arith in ap (λ (n : ℕ). n / s.versions) same
 
   -- so for a place of a row
-  pub region_shown : (row i : ℕ) → i < s.versions → (shape_shown s).region (suc (row * s.versions + i)) ≡ row
+  pub region_shown : (row i : ℕ) → i < s.versions → (shape_shown s).region
+      (suc (row * s.versions + i)) ≡ row
   region_shown row i low = region_of_shown (row * s.versions + i) ∙ row_in_place row i low
 
   -- and that it is below all versions
   pub version_below : (row i : ℕ) → row < row_count s → i < s.versions
       → row * s.versions + i < version_count s
-  version_below row i a b = let h = mul-add-lt row s.versions i (row_count s) a b in omega (arith, h)
+  version_below row i a b = let h = mul-add-lt row s.versions i (row_count s) a b in
+      omega (arith, h)
 
   -- a version at a place of a caller's region has that owner
   pub owner_of_version : (v : Version) (q g i : ℕ) → q < s.callers → g < s.regions → i < s.versions

@@ -26,7 +26,8 @@ refers_some : (index : Index) (w : ℕ) (r : Option Name) → Refers index w r
 refers_some index w None e = inl e
 refers_some index w (Some n) e = inr (e.0, e.1, e.2 ∙ omega arith)
 
-module _ (s : Shape) (start : Start) (sized : IsSizedStart start) (room : starting_count start ≤ s.versions)
+module _ (s : Shape) (start : Start) (sized : IsSizedStart start)
+    (room : starting_count start ≤ s.versions)
     (words : List ℕ) (next : ℕ → ℕ) where
   abbrev heap : Heap
   heap = record {
@@ -48,9 +49,11 @@ module _ (s : Shape) (start : Start) (sized : IsSizedStart start) (room : starti
       let number : it.0.version.0 ≡ v = numbered_number v it.0 it.1 in
       (it.0, ap (slice_get (all_known start)) number ∙ it.1, number)
     where
-      numbered_number : (v : ℕ) (k : Known) → slice_get (all_known start) v ≡ Some k → k.version.0 ≡ v
+      numbered_number : (v : ℕ) (k : Known) → slice_get (all_known start) v ≡ Some k → k.version.0
+          ≡ v
       numbered_number v k e =
-          ap (λ (m : Known). m.version.0) (numbered_at 0 (all_known start) v k (numbered start sized) e).is
+          ap (λ (m : Known). m.version.0)
+          (numbered_at 0 (all_known start) v k (numbered start sized) e).is
           ∙ omega arith
 
   below_count : (k : Known) → IsPublished (fresh_index start) k → k.version.0 < starting_count start
@@ -67,25 +70,31 @@ module _ (s : Shape) (start : Start) (sized : IsSizedStart start) (room : starti
 
     refers_at : (v f : ℕ) → v < starting_count start → f < 4
         → (slice_index words (word_at s record { 0 = v } (2 + f)) ≡ 0)
-        ⊎ ((w : ℕ) × (w < starting_count start) × (slice_index words (word_at s record { 0 = v } (2 + f))
+        ⊎ ((w : ℕ) × (w < starting_count start)
+        × (slice_index words (word_at s record { 0 = v } (2 + f))
         ≡ suc w))
     refers_at v f low few = let k = known_of v low in
         subst (λ (i : ℕ). (slice_index words (word_at s record { 0 = i } (2 + f)) ≡ 0)
-        ⊎ ((w : ℕ) × (w < starting_count start) × (slice_index words (word_at s record { 0 = i } (2 + f))
+        ⊎ ((w : ℕ) × (w < starting_count start)
+        × (slice_index words (word_at s record { 0 = i } (2 + f))
         ≡ suc w)))
         k.2 (⊎_elim (λ (z : words_at s words k.0 (2 + f) ≡ 0). inl z)
         (λ (r : (m : Known) × IsPublished (fresh_index start) m × (words_at s words k.0 (2 + f)
         ≡ suc m.version.0)).
         inr (r.0.version.0, below_count r.0 r.1, r.2))
-        (refers_some (fresh_index start) (words_at s words k.0 (2 + f)) (reference_at k.0.contents f)
+        (refers_some (fresh_index start) (words_at s words k.0 (2 + f))
+        (reference_at k.0.contents f)
         ((contents k.0 k.1).refs f few)))
 
     refers : (v f : ℕ) → v < starting_count start → f < 4
-        → (first_word s (starting_count start) words (common_known start).version next (suc v) (suc f) ≡ 0)
+        → (first_word s (starting_count start) words (common_known start).version next (suc v)
+        (suc f) ≡ 0)
         ⊎ ((w : ℕ) × (w < starting_count start)
-        × (first_word s (starting_count start) words (common_known start).version next (suc v) (suc f)
+        × (first_word s (starting_count start) words (common_known start).version next (suc v)
+        (suc f)
         ≡ suc w))
-    refers v f low few = subst (λ (z : ℕ). (z ≡ 0) ⊎ ((w : ℕ) × (w < starting_count start) × (z ≡ suc w)))
+    refers v f low few =
+        subst (λ (z : ℕ). (z ≡ 0) ⊎ ((w : ℕ) × (w < starting_count start) × (z ≡ suc w)))
         (sym (field_first v (suc f) (omega (arith, few))
         ∙ ap (λ (i : ℕ). slice_index words (word_at s record { 0 = v } i)) (omega arith)))
         (refers_at v f low few)
@@ -100,7 +109,8 @@ module _ (s : Shape) (start : Start) (sized : IsSizedStart start) (room : starti
 
     good : rule.Good state
     good = opening_good state
-        (opens s (starting_count start) words (common_known start).version next room common_low linked refers)
+        (opens s (starting_count start) words (common_known start).version next room common_low
+        linked refers)
 
     used_shown : (row i : ℕ) → i < s.versions
         → nat_lt (row * s.versions + i) (starting_count start) ≡ nat_lt i (fresh_used start row)
@@ -116,7 +126,8 @@ module _ (s : Shape) (start : Start) (sized : IsSizedStart start) (room : starti
     beyond_shown : (v : ℕ) → version_count s ≤ v → nat_lt v (starting_count start) ≡ false
     beyond_shown v high =
         let some : 0 < s.callers * s.regions =
-        mul-lt 0 0 s.callers s.regions (omega (arith, s.callers_fit)) (omega (arith, s.regions_fit)) in
+        mul-lt 0 0 s.callers s.regions (omega (arith, s.callers_fit))
+        (omega (arith, s.regions_fit)) in
         let more = versions_some (s.callers * s.regions) s.versions some in
         grind (arith, nat_tests, more, room)
 
@@ -129,7 +140,8 @@ module _ (s : Shape) (start : Start) (sized : IsSizedStart start) (room : starti
         let name : k.0.name ≡ starting_name v =
         ap (λ (m : Known). m.name) (known_at start sized k.0 k.1).is ∙ ap starting_name k.2 in (
           k.0.name,
-          there_contents (store_of (opening_of start)) k.0.name k.0.contents (present start sized k.0 k.1),
+          there_contents (store_of (opening_of start)) k.0.name k.0.contents
+              (present start sized k.0 k.1),
           b.1 ∙ ap name_shown (sym name),
         )
 
@@ -158,12 +170,14 @@ module _ (s : Shape) (start : Start) (sized : IsSizedStart start) (room : starti
       beyond = beyond_shown;
       none = refl;
       words = λ v f low few. grind (arith, nat_tests, common_steps);
-      object = λ k there. ap name_shown (sym (ap (λ (m : Known). m.name) (known_at start sized k there).is));
+      object = λ k there. ap name_shown
+          (sym (ap (λ (m : Known). m.name) (known_at start sized k there).is));
       rank = λ k there. sym (ap (λ (m : Known). m.rank) (known_at start sized k there).is);
       store = λ o has. named_there o (found_of (starting_count start) o) refl has;
     }
 
-none_of : {A : Type 0} (n i : ℕ) (o : Option A) → o ≡ None → slice_index_or (replicate n o) i None ≡ None
+none_of : {A : Type 0} (n i : ℕ) (o : Option A) → o ≡ None → slice_index_or (replicate n o) i None
+    ≡ None
 none_of n i o e = grind (arith, common_steps, get_or-replicate n i o None)
 
 unwritten : {A : Type 0} (j : ℕ) → IsSome (slice_index_or nothing_written j None) → A

@@ -1,14 +1,14 @@
--- What a move leaves of the caller that makes it, and of the others.
+-- What a look or a build leaves of the caller that makes it.
 use Rattle.std.proofs.Common.{◌≡◌, ◌≢◌, ◌⊎◌, ◌||◌, ◌<◌, ◌+◌, ◌*◌, ℕ, zero, suc, true, List, [], ◌∷◌, ◌++◌, length, set, slice_index, slice_set, Option, Some, None, IfSome, Contains, refl, sym, ap, ◌∙◌, subst, arith, inl, append-nil, length-set, get_or-set_same, get_or-set_other, append_assoc, false, ne_eqb, Bool, ◌||◌}
-use Rattle.hm_moves.proofs.Words.{Contains-push, Contains-append_left, Shape, Version, IsAt, version_at, word_at, Name, Entry, PlainStore, calls_of, opening_of, IsLawful, Known, Part, Act, Looks, Builds, Look, LoadStamp, LoadReference, LoadNumber, LoadLink, list_any, StoreOwn, Publish, LinkStore, Move, Heap, row_of, Places, IsOwn, places_with, IsPublished, Index, next_version, word_of}
-use Rattle.hm_moves.proofs.Words.{becomes, entry_of, publishes, finds, listed, looked_at, looked_word, index_with, row_of_part, count_of, is_naming, written_with, without, with_held, hands_after, seen_after, is_version, IsWritten, Names, HasRoom, IsWritable, MayLookInto, MayTake, IsWordOf, Begins, HeapIsGood, PartIsGood, HasCalls, AreIndexed, AreApart, published_of}
-use Rattle.hm_moves.proofs.Histories.{IsBy, calls_after, calls_beside, begins_more, begins_on, begins_self, lawful_before}
-use Rattle.hm_moves.proofs.Placed.{place_small, published_either, raised_here, raised_else, same_row, elsewhere, written_here, raised_here, raised_else, not_the_one}
+use Rattle.hm_moves.proofs.Words.{Contains-push, Contains-append_left, Shape, Version, version_at, word_at, Name, Entry, PlainStore, calls_of, opening_of, IsLawful, Known, Part, Act, Looks, Builds, list_any, StoreOwn, Publish, LinkStore, Move, Heap, Places, IsOwn, places_with, IsPublished, Index, next_version, word_of}
+use Rattle.hm_moves.proofs.Words.{becomes, entry_of, publishes, finds, listed, index_with, row_of_part, count_of, is_naming, written_with, without, with_held, hands_after, seen_after, is_version, IsWritten, Names, HasRoom, IsWritable, MayTake, Begins, HeapIsGood, PartIsGood, AreIndexed, AreApart, published_of}
+use Rattle.hm_moves.proofs.Histories.{IsBy, calls_after, begins_more, begins_on, begins_self, lawful_before}
+use Rattle.hm_moves.proofs.Placed.{published_either, raised_here, elsewhere, written_here, raised_here, not_the_one}
 use Rattle.hm_moves.proofs.Held.{listed_cases, from_some, held_cases, held_stays, without_held, none_written, written_low, unnamed_wide, unnamed_was, names_without, names_more, contains_here, contains_behind}
-use Rattle.hm_moves.proofs.Heaps.{same_word, look_published, next_small}
+use Rattle.hm_moves.proofs.Heaps.{same_word, next_small}
 use Rattle.hm_moves.proofs.Finding.{next_now, index_more, index_here, entry_by, fresh_now, found_now}
 use Rattle.std.proofs.lemmas.List.Folds.{list_any-append}
-use Rattle.std.proofs.Common.{◌/◌, inr, ⊎_elim}
+use Rattle.std.proofs.Common.{◌/◌, ⊎_elim}
 use Rattle.hm_moves.proofs.Words.{naming_word}
 use Rattle.std.proofs.lemmas.List.Elements.{Contains-append_cases}
 use Rattle.std.proofs.lemmas.Nat.{div-mul-add}
@@ -26,16 +26,10 @@ plus_none n = omega arith
 row_of_place : (row n i : ℕ) → i < n → (row * n + i) / n ≡ row
 row_of_place row n i low = div-mul-add row n i low
 
--- a load moves one of the words of a version
-look_low : (l : Look) → IsWordOf l → looked_word l < 16
-look_low (LoadStamp at) h = omega arith
-look_low (LoadReference at i) h = omega arith
-look_low (LoadNumber at i) h = omega arith
-look_low (LoadLink at want) h = omega arith
-
 -- versions stay apart where one comes behind them that has another number than each
 apart_with : (l : List Known) (o : Option Known) → AreApart l
-    → ((k n : Known) → Contains l k → o ≡ Some n → k.version.0 ≢ n.version.0) → AreApart (l ++ listed o)
+    → ((k n : Known) → Contains l k → o ≡ Some n → k.version.0 ≢ n.version.0)
+    → AreApart (l ++ listed o)
 apart_with [] None h f = tt
 apart_with [] (Some n) h f = (refl, tt)
 apart_with (k ∷ ks) o h f = (
@@ -52,7 +46,8 @@ apart_with (k ∷ ks) o h f = (
 
 module _ {U : Type 0} (lawful : U → PlainStore → Type 0) (allowed : U → PlainStore → Entry → Type 0)
     (h : Heap) (seen : List Entry) (p : Part U) (good : HeapIsGood lawful allowed p.site h)
-    (mine : PartIsGood p.site h seen p) (names : Name → Type 0) (make : Entry → Type 0) (clean : Type 0)
+    (mine : PartIsGood p.site h seen p) (names : Name → Type 0) (make : Entry → Type 0)
+    (clean : Type 0)
     (later : Known → ℕ → Known → Type 0) where
   abbrev s : Shape
   s = p.site.shape
@@ -62,7 +57,8 @@ module _ {U : Type 0} (lawful : U → PlainStore → Type 0) (allowed : U → Pl
 
   -- the word of the next version, if so many places are used
   abbrev own_word : List ℕ → ℕ → ℕ → ℕ
-  own_word words used j = slice_index words (word_at s (version_at s p.number p.draft.region used) j)
+  own_word words used j = slice_index words
+      (word_at s (version_at s p.number p.draft.region used) j)
 
   -- the places afterwards
   abbrev places : Option Known → Places
@@ -74,18 +70,19 @@ module _ {U : Type 0} (lawful : U → PlainStore → Type 0) (allowed : U → Pl
       let a = mine.draft.used in let b = raised_here h.places.used (row_of_part p) in omega arith
 
   -- what is published changes no role, and no row is dead for it
-  role_same : (o : Option Known) (row : ℕ) → (places o).role row ≡ h.places.role row
+  pub role_same : (o : Option Known) (row : ℕ) → (places o).role row ≡ h.places.role row
   role_same None row = refl
   role_same (Some k) row = refl
 
-  dead_same : (o : Option Known) (row : ℕ) → (places o).dead row ≡ h.places.dead row
+  pub dead_same : (o : Option Known) (row : ℕ) → (places o).dead row ≡ h.places.dead row
   dead_same None row = refl
   dead_same (Some k) row = refl
 
   wide_with : (act : Act) (o : Option Known) → length (written_with p.draft.written act o) ≡ 16
   wide_with act (Some k) = refl
   wide_with (Looks l) None = mine.draft.wide
-  wide_with (Builds (StoreOwn i word)) None = length-set p.draft.written i (Some word) ∙ mine.draft.wide
+  wide_with (Builds (StoreOwn i word)) None = length-set p.draft.written i (Some word)
+      ∙ mine.draft.wide
   wide_with (Builds (Publish k)) None = mine.draft.wide
   wide_with (Builds (LinkStore at k o)) None = mine.draft.wide
   wide_with (Builds (Shorten at i target)) None = mine.draft.wide
@@ -125,16 +122,19 @@ module _ {U : Type 0} (lawful : U → PlainStore → Type 0) (allowed : U → Pl
       )
 
   -- written words are in the Table
-  written_after : (act : Act) → IsWork act → May act → (x : ℕ) → x ≡ slice_index h.words (word_of p act)
+  written_after : (act : Act) → IsWork act → May act → (x : ℕ) → x ≡ slice_index h.words
+      (word_of p act)
       → p.draft.used + count_of (publishes act x) < s.versions → (j w : ℕ)
       → IsWritten (written_with p.draft.written act (publishes act x)) j w
       → own_word (slice_set h.words (word_of p act) (becomes act x))
       (p.draft.used + count_of (publishes act x)) j ≡ w
   written_after (Looks l) work may x is =
-      as_before (slice_set h.words (word_of p (Looks l)) x) (same_word h.words (word_of p (Looks l)) x is)
+      as_before (slice_set h.words (word_of p (Looks l)) x)
+      (same_word h.words (word_of p (Looks l)) x is)
   written_after (Builds (StoreOwn i word)) work may x is = one_more i word may
   written_after (Builds (Publish k)) work may x is = λ room j w e. absurd (none_written j w e)
-  written_after (Builds (LinkStore at k o)) work may zero is = λ room j w e. absurd (none_written j w e)
+  written_after (Builds (LinkStore at k o)) work may zero is = λ room j w e. absurd
+      (none_written j w e)
   written_after (Builds (LinkStore at k o)) work may (suc n) is =
       as_before (slice_set h.words (word_at s at.version 0) (suc n))
       (same_word h.words (word_at s at.version 0) (suc n) is)
@@ -144,7 +144,8 @@ module _ {U : Type 0} (lawful : U → PlainStore → Type 0) (allowed : U → Pl
       (naming_low i may.word)
       (inl (λ same. let none = next_none lawful allowed h seen p good mine (omega arith) in
       let there : IsPublished h.index at = (mine.hands.own at may.own).published in
-      let here : (version_at s p.number p.draft.region (p.draft.used + 0)).0 ≡ (next_version p).0 = omega arith in
+      let here : (version_at s p.number p.draft.region (p.draft.used + 0)).0 ≡ (next_version p).0 =
+      omega arith in
       let both : Some at ≡ None = sym there ∙ (ap h.index (sym same ∙ here) ∙ none) in cc))
       ∙ (let a = mine.draft.written (omega arith) j w e in
       let here : version_at s p.number p.draft.region (p.draft.used + 0) ≡ next_version p =
@@ -171,7 +172,8 @@ module _ {U : Type 0} (lawful : U → PlainStore → Type 0) (allowed : U → Pl
   listed_with o = published_of p.hands ++ listed o
 
   -- a version that it publishes is its own
-  fresh_own : (index : Index) (k : Known) → (k.version ≡ next_version p) × HasRoom p → IsPublished index k
+  fresh_own : (index : Index) (k : Known) → (k.version ≡ next_version p) × HasRoom p
+      → IsPublished index k
       → IsOwn s p.number index k
   fresh_own index k t there = record {
     published = there;
@@ -186,7 +188,8 @@ module _ {U : Type 0} (lawful : U → PlainStore → Type 0) (allowed : U → Pl
   }
 
   -- and what was its own is so still
-  still_own : (q : ℕ) (o : Option Known) (k : Known) → IfSome o (λ n. h.index n.version.0 ≡ None)
+  pub still_own : (q : ℕ) (o : Option Known) (k : Known)
+      → IfSome o (λ n. h.index n.version.0 ≡ None)
       → IsOwn s q h.index k → IsOwn s q (index_with h.index o) k
   still_own q o k fresh own = record {
     published = index_more h.index o k fresh own.published;
@@ -197,7 +200,8 @@ module _ {U : Type 0} (lawful : U → PlainStore → Type 0) (allowed : U → Pl
 
   own_more : (o : Option Known) (k : Known) → IsOwn s p.number (index_with h.index o) k
       → Contains (listed_with o) k
-  own_more None k own = subst (λ (l : List Known). Contains l k) (sym (append-nil (published_of p.hands)))
+  own_more None k own = subst (λ (l : List Known). Contains l k)
+      (sym (append-nil (published_of p.hands)))
       (mine.hands.all k own)
   own_more (Some f) k own = grind (
     arith,
@@ -208,15 +212,18 @@ module _ {U : Type 0} (lawful : U → PlainStore → Type 0) (allowed : U → Pl
         (record { published = t; region = own.region; place = own.place; at = own.at }),
   )
 
-  -- the next version has another number than each that the caller has published: what it left behind
-  -- lies in another row
-  apart_new : (k n : Known) → Contains (published_of p.hands) k → (n.version ≡ next_version p) × HasRoom p
+  -- the next version has another number than each that the caller has published: what it left
+  -- behind lies in another row
+  apart_new : (k n : Known) → Contains (published_of p.hands) k → (n.version ≡ next_version p)
+      × HasRoom p
       → k.version.0 ≢ n.version.0
   apart_new k n there next e = ⊎_elim
       (λ (t : Contains p.hands.left k).
       let row : row_in s k.version ≡ row_of_part p = ap (λ (v : ℕ). v / s.versions) e
-      ∙ (ap (λ (v : Version). row_in s v) next.0 ∙ row_of_place (row_of_part p) s.versions p.draft.used next.1) in
-      let both : h.places.role (row_of_part p) ≡ From = ap h.places.role (sym row) ∙ mine.hands.given k t in
+      ∙ (ap (λ (v : Version). row_in s v) next.0 ∙ row_of_place (row_of_part p) s.versions
+      p.draft.used next.1) in
+      let both : h.places.role (row_of_part p) ≡ From = ap h.places.role (sym row)
+      ∙ mine.hands.given k t in
       let bad : From ≡ To = sym both ∙ mine.draft.to in cc)
       (λ (t : Contains p.hands.own k).
       not_the_one h.index n k (fresh_none lawful allowed h seen p good mine n next.1 next.0)
@@ -248,7 +255,8 @@ module _ {U : Type 0} (lawful : U → PlainStore → Type 0) (allowed : U → Pl
         own = λ k there. ⊎_elim
             (λ (t : Contains p.hands.own k). still_own p.number new k fresh (mine.hands.own k t))
             (λ (e : new ≡ Some k). fresh_own (index_with h.index new) k
-            (from_some (λ n. (n.version ≡ next_version p) × HasRoom p) new k e next) (index_here h.index new k e))
+            (from_some (λ n. (n.version ≡ next_version p) × HasRoom p) new k e next)
+            (index_here h.index new k e))
             (listed_cases p.hands.own new k there);
         kept = λ k there. ap is_kept (role_same new (row_in s k.version)) ∙ ⊎_elim
             (λ (t : Contains p.hands.own k). mine.hands.kept k t)
@@ -265,7 +273,8 @@ module _ {U : Type 0} (lawful : U → PlainStore → Type 0) (allowed : U → Pl
             (mine.hands.alive k there (sym (dead_same new (row_in s k.version)) ∙ live));
         all = λ k own. subst (λ (l : List Known). Contains l k) (sym same) (own_more new k own);
         once = subst AreApart (sym same) (apart_with (published_of p.hands) new mine.hands.once
-            (λ k n there e. apart_new k n there (from_some (λ f. (f.version ≡ next_version p) × HasRoom p) new n e next)));
+            (λ k n there e. apart_new k n there
+            (from_some (λ f. (f.version ≡ next_version p) × HasRoom p) new n e next)));
       }
 
   module _ (begins : Begins seen h.history) where
@@ -274,35 +283,43 @@ module _ {U : Type 0} (lawful : U → PlainStore → Type 0) (allowed : U → Pl
     calls_seen None by = mine.calls.seen ∙ sym (append-nil p.calls.mine)
     calls_seen (Some e) by = calls_after p.number h.history p.calls.mine (Some e) by mine.calls.all
 
-    pub opened_after : (o : Option Entry) → Begins (opening_of p.site.start) (seen_after seen h.history o)
+    pub opened_after : (o : Option Entry) → Begins (opening_of p.site.start)
+        (seen_after seen h.history o)
     opened_after None = mine.calls.opened
     opened_after (Some e) =
         begins_more (opening_of p.site.start) h.history (e ∷ [])
         (begins_on (opening_of p.site.start) seen h.history mine.calls.opened begins)
 
     -- what is seen begins the history
-    pub begins_after : (o : Option Entry) → Begins (seen_after seen h.history o) (h.history ++ listed o)
+    pub begins_after : (o : Option Entry) → Begins (seen_after seen h.history o)
+        (h.history ++ listed o)
     begins_after None = begins_more seen h.history [] begins
     begins_after (Some e) = begins_self (h.history ++ e ∷ [])
 
     -- and is lawful
     pub seen_lawful : (o : Option Entry)
         → IsLawful (lawful p.site.usage) (allowed p.site.usage) p.site.start (h.history ++ listed o)
-        → IsLawful (lawful p.site.usage) (allowed p.site.usage) p.site.start (seen_after seen h.history o)
-    seen_lawful None l = lawful_before (lawful p.site.usage) (allowed p.site.usage) p.site.start seen
+        → IsLawful (lawful p.site.usage) (allowed p.site.usage) p.site.start
+        (seen_after seen h.history o)
+    seen_lawful None l = lawful_before (lawful p.site.usage) (allowed p.site.usage) p.site.start
+        seen
         h.history
         mine.calls.opened begins good.history
     seen_lawful (Some e) l = l
 
     -- the caller that makes the move
-    pub own_part : (m : Move) → IsWork m.act → May m.act → (x : ℕ) → x ≡ slice_index h.words (word_of p m.act)
-        → PartIsGood p.site (heap_worked h p m.act x) (seen_after seen h.history (entry_of p.number m.act x))
+    pub own_part : (m : Move) → IsWork m.act → May m.act → (x : ℕ) → x ≡ slice_index h.words
+        (word_of p m.act)
+        → PartIsGood p.site (heap_worked h p m.act x)
+        (seen_after seen h.history (entry_of p.number m.act x))
         (worked p m x (finds h.index m.act x))
     own_part m work may x is =
-        let fresh = fresh_now lawful allowed h seen p good mine names make clean later m.act may x in
+        let fresh = fresh_now lawful allowed h seen p good mine names make clean later m.act may
+        x in
         let by = entry_by lawful allowed h seen p good mine names make clean later m.act may x in
         let found : Option Known = finds h.index m.act x in
-        let fresh_words : List (Option ℕ) = written_with p.draft.written m.act (publishes m.act x) in
+        let fresh_words : List (Option ℕ) = written_with p.draft.written m.act
+        (publishes m.act x) in
         let left : List Known = without p.hands.held m.let_go in
         record {
           site = refl;
@@ -315,144 +332,21 @@ module _ {U : Type 0} (lawful : U → PlainStore → Type 0) (allowed : U → Pl
             wide = unnamed_wide m.let_go fresh_words ∙ wide_with m.act (publishes m.act x);
             written = λ room j w e. written_after m.act work may x is room j w
                 (unnamed_was m.let_go fresh_words j w e);
-            named = λ j w n e. names_more left (with_held (with_held left found) (publishes m.act x)) w
-                (λ k c. held_stays (with_held left found) (publishes m.act x) k (held_stays left found k c))
+            named = λ j w n e. names_more left
+                (with_held (with_held left found) (publishes m.act x)) w
+                (λ k c. held_stays (with_held left found) (publishes m.act x) k
+                (held_stays left found k c))
                 (names_without p.hands.held m.let_go fresh_words j w e n
                 (named_before m.act may x j w n (unnamed_was m.let_go fresh_words j w e)));
           };
           hands = hands_now m x found
               (next_now lawful allowed h seen p good mine names make clean later m.act may x) fresh
-              (found_now lawful allowed h seen p good mine names make clean later m.act work may x is).1;
+              (found_now lawful allowed h seen p good mine names make clean later m.act work may x
+              is).1;
           calls = record {
-            all = calls_after p.number h.history p.calls.mine (entry_of p.number m.act x) by mine.calls.all;
+            all = calls_after p.number h.history p.calls.mine (entry_of p.number m.act x) by
+                mine.calls.all;
             seen = calls_seen (entry_of p.number m.act x) by;
             opened = opened_after (entry_of p.number m.act x);
           };
-        }
-
-  -- another caller, which has seen the same or no less
-  module _ (known : List Entry) (q : Part U) (apart : q.number ≢ p.number)
-      (theirs : PartIsGood p.site h known q) where
-    abbrev their_row : ℕ
-    their_row = row_of s q.number q.draft.region
-
-    abbrev their_next : Version
-    their_next = version_at s q.number q.draft.region q.draft.used
-
-    other_row : their_row ≢ row_of_part p
-    other_row e = apart (same_row q.number p.number s.regions q.draft.region p.draft.region
-        theirs.draft.region
-        mine.draft.region e)
-
-    used_same : (o : Option Known) → (places o).used their_row ≡ h.places.used their_row
-    used_same None = refl
-    used_same (Some k) = raised_else h.places.used (row_of_part p) their_row other_row
-
-    their_none : q.draft.used < s.versions → h.index their_next.0 ≡ None
-    their_none room =
-        let small = place_small q.number s.callers s.regions q.draft.region theirs.number theirs.draft.region in
-        ap (λ (i : ℕ). h.index (their_row * s.versions + i)) theirs.draft.used
-        ∙ good.placed.unused their_row (h.places.used their_row) small (let a = theirs.draft.used in omega arith)
-        (omega arith)
-
-    not_looked : (k : Known) → MayLookInto p k → q.draft.used < s.versions → their_next.0 ≢ k.version.0
-    not_looked k look room e = let a = look_published h seen p mine k look in let b = their_none room in cc
-
-    not_next : HasRoom p → q.draft.used < s.versions → their_next.0 ≢ (next_version p).0
-    not_next a b e =
-        other_row (same_row their_row (row_of_part p) s.versions q.draft.used p.draft.used b a e)
-
-    unmoved : (act : Act) → IsWork act → May act → q.draft.used < s.versions → (y j : ℕ) → j < 16
-        → slice_index (slice_set h.words (word_of p act) y) (word_at s their_next j)
-        ≡ slice_index h.words (word_at s their_next j)
-    unmoved (Looks l) work may room y j low =
-        elsewhere s h.words their_next (looked_at l).version j (looked_word l) y low
-        (look_low l may.word) (inl (not_looked (looked_at l) may.look room))
-    unmoved (Builds (StoreOwn i word)) work may room y j low =
-        elsewhere s h.words their_next (next_version p) j i y low may.below (inl (not_next may.room room))
-    unmoved (Builds (Publish k)) work may room y j low =
-        elsewhere s h.words their_next (next_version p) j 0 y low (omega arith)
-        (inl (not_next may.first.room room))
-    unmoved (Builds (Shorten at i target)) work may room y j low =
-        elsewhere s h.words their_next at.version j i y low (naming_low i may.word)
-        (inl (not_looked at (inr may.own) room))
-    unmoved (Ticks t) work may room y j low = absurd work
-    unmoved (Shifts f) work may room y j low = absurd work
-    unmoved (Builds (LinkStore at k o)) work may room y j low =
-        elsewhere s h.words their_next at.version j 0 y low (omega arith) (inl (not_looked at may.look room))
-
-    -- its calls are as before, also in what a seat that carries both has seen
-    pub calls_known : (o : Option Entry) → IsBy p.number o
-        → HasCalls p.site.start q.number q.calls.mine (h.history ++ listed o) known
-    calls_known o by = record {
-      all = calls_beside p.number q.number h.history q.calls.mine o by (λ e. apart (sym e)) theirs.calls.all;
-      seen = theirs.calls.seen;
-      opened = theirs.calls.opened;
-    }
-
-    pub calls_along : (o : Option Entry) → IsBy p.number o → Begins known h.history
-        → HasCalls p.site.start q.number q.calls.mine (h.history ++ listed o) (seen_after known h.history o)
-    calls_along None by b = calls_known None by
-    calls_along (Some e) by b =
-        let all = calls_beside p.number q.number h.history q.calls.mine (Some e) by (λ z. apart (sym z))
-        theirs.calls.all in
-        record {
-          all = all;
-          seen = all;
-          opened = begins_more (opening_of p.site.start) h.history (e ∷ [])
-              (begins_on (opening_of p.site.start) known h.history theirs.calls.opened b);
-        }
-
-    -- what another publishes lies in no region of it
-    not_theirs : (k : Known) (region place : ℕ) → k.version ≡ next_version p → HasRoom p
-        → IsAt s k.version q.number region place → ⊥
-    not_theirs k region place is room at =
-        let same : row_of s q.number region * s.versions + place ≡ (next_version p).0 =
-        ap (λ (v : Version). v.0) (sym at.number ∙ is) in
-        apart (same_row q.number p.number s.regions region p.draft.region at.region_fits mine.draft.region
-        (same_row (row_of s q.number region) (row_of_part p) s.versions place p.draft.used at.place_fits room same))
-
-    their_own : (o : Option Known) → IfSome o (λ f. (f.version ≡ next_version p) × HasRoom p) → (k : Known)
-        → IsOwn s q.number (index_with h.index o) k → Contains (published_of q.hands) k
-    their_own None f k own = theirs.hands.all k own
-    their_own (Some m) f k own = grind (
-      arith,
-      published_either h.index m k own.published,
-      λ (is : k.version ≡ next_version p). not_theirs k own.region own.place is f.1 own.at,
-      λ (t : IsPublished h.index k). theirs.hands.all k
-          (record { published = t; region = own.region; place = own.place; at = own.at }),
-    )
-
-    -- a caller that makes no move
-    pub other_part : (act : Act) → IsWork act → May act → (x : ℕ) → (after : List Entry)
-        → HasCalls p.site.start q.number q.calls.mine (h.history ++ listed (entry_of p.number act x)) after
-        → PartIsGood p.site (heap_worked h p act x) after q
-    other_part act work may x after calls =
-        let fresh = fresh_now lawful allowed h seen p good mine names make clean later act may x in
-        record {
-          site = theirs.site;
-          number = theirs.number;
-          draft = record {
-            region = theirs.draft.region;
-            to = role_same (publishes act x) their_row ∙ theirs.draft.to;
-            live = dead_same (publishes act x) their_row ∙ theirs.draft.live;
-            used = theirs.draft.used ∙ sym (used_same (publishes act x));
-            wide = theirs.draft.wide;
-            written = λ room j w is. unmoved act work may room (becomes act x) j
-                (written_low q.draft.written j w theirs.draft.wide is) ∙ theirs.draft.written room j w is;
-            named = theirs.draft.named;
-          };
-          hands = record {
-            held = λ k there. index_more h.index (publishes act x) k fresh (theirs.hands.held k there);
-            own = λ k there. still_own q.number (publishes act x) k fresh (theirs.hands.own k there);
-            kept = λ k there. ap is_kept (role_same (publishes act x) (row_in s k.version)) ∙ theirs.hands.kept k there;
-            left = theirs.hands.left;
-            given = λ k there. role_same (publishes act x) (row_in s k.version) ∙ theirs.hands.given k there;
-            alive = λ k there live. index_more h.index (publishes act x) k fresh
-                (theirs.hands.alive k there (sym (dead_same (publishes act x) (row_in s k.version)) ∙ live));
-            all = their_own (publishes act x) (next_now lawful allowed h seen p good mine names make clean later act may
-                x);
-            once = theirs.hands.once;
-          };
-          calls = calls;
         }

@@ -13,13 +13,15 @@ module _ {A : Type 0} where
   at_set (x ∷ xs) (suc i) (suc j) a b e = grind (arith, at_set xs i j a b e)
 
   -- elements of the first list stay where they are
-  pub at_longer : (l m : List A) (i : ℕ) (a : A) → get_elem? l i ≡ some a → get_elem? (l ++ m) i ≡ some a
+  pub at_longer : (l m : List A) (i : ℕ) (a : A) → get_elem? l i ≡ some a → get_elem? (l ++ m) i
+      ≡ some a
   at_longer [] m i a e = absurd (some-ne-none a (sym e))
   at_longer (x ∷ xs) m zero a e = e
   at_longer (x ∷ xs) m (suc i) a e = at_longer xs m i a e
 
   -- those of the second come behind it
-  pub at_later : (l m : List A) (i : ℕ) (a : A) → get_elem? m i ≡ some a → get_elem? (l ++ m) (length l + i) ≡
+  pub at_later : (l m : List A) (i : ℕ) (a : A) → get_elem? m i ≡ some a → get_elem? (l ++ m)
+      (length l + i) ≡
       some a
   at_later [] m i a e = subst (λ (k : ℕ). get_elem? m k ≡ some a) (omega arith) e
   at_later (x ∷ xs) m i a e =
@@ -49,7 +51,8 @@ module _ {A : Type 0} where
   at_either (x ∷ xs) m (suc k) a e = grind (arith, at_either xs m k a e)
 
   -- what was put at a place that had an element is there
-  pub set_here : (l : List A) (i : ℕ) (a b : A) → get_elem? l i ≡ some a → get_elem? (set l i b) i ≡ some b
+  pub set_here : (l : List A) (i : ℕ) (a b : A) → get_elem? l i ≡ some a → get_elem? (set l i b) i
+      ≡ some b
   set_here [] i a b e = absurd (some-ne-none a (sym e))
   set_here (x ∷ xs) zero a b e = refl
   set_here (x ∷ xs) (suc i) a b e = set_here xs i a b e

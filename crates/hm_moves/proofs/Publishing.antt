@@ -42,22 +42,27 @@ module _ {U : Type 0} {h : Heap} {seen : List Entry} {p : Part U} {moves : ℕ �
   -- a new version is the caller's next, and was not published
   next_none : HasRoom p → h.index (next_version p).0 ≡ None
   next_none room = ap h.index (next_at ready)
-      ∙ ready.placed.unused its_row (h.places.used its_row) (its_row_low ready) (its_room ready room)
+      ∙ ready.placed.unused its_row (h.places.used its_row) (its_row_low ready)
+      (its_room ready room)
       (omega arith)
 
   hold_next : (k : Known) → HasRoom p → k.version ≡ next_version p → (v : ℕ)
       → put_row x.hands.held me
-      (λ other. x.hands.held me other || ((other == x.hands.next me) && not (x.hands.next me == 0))) me v
+      (λ other. x.hands.held me other || ((other == x.hands.next me) && not (x.hands.next me == 0)))
+      me v
       ≡ ((any_shown p.hands.held v || false) || shown_as (Some k) v)
   hold_next k room at v =
-      let is : x.hands.next me ≡ version_shown k.version = next_here ready room ∙ ap version_shown (sym at) in
+      let is : x.hands.next me ≡ version_shown k.version = next_here ready room ∙ ap version_shown
+      (sym at) in
       row_same x.hands.held me
-      (λ other. x.hands.held me other || ((other == x.hands.next me) && not (x.hands.next me == 0))) v
+      (λ other. x.hands.held me other || ((other == x.hands.next me) && not (x.hands.next me == 0)))
+      v
       ∙ (ap (λ (n : ℕ). x.hands.held me v || ((v == n) && not (n == 0))) is
       ∙ (ap (λ (t : Bool). x.hands.held me v || ((v == version_shown k.version) && not t))
       (ne_eqb (version_shown k.version) 0 (λ e. omega (arith, e)))
       ∙ (ap (λ (t : Bool). t || ((v == version_shown k.version) && true)) (ready.part.hands.held v)
-      ∙ (ap (λ (t : Bool). any_shown p.hands.held v || (t && true)) (eq_turn v (version_shown k.version))
+      ∙ (ap (λ (t : Bool). any_shown p.hands.held v || (t && true))
+      (eq_turn v (version_shown k.version))
       ∙ held_more (any_shown p.hands.held v) (version_shown k.version == v)))))
     where
       held_more : (a b : Bool) → (a || (b && true)) ≡ ((a || false) || b)
@@ -65,28 +70,33 @@ module _ {U : Type 0} {h : Heap} {seen : List Entry} {p : Part U} {moves : ℕ �
       held_more false true = refl
       held_more false false = refl
 
-  none_written_yet : {A : Type 0} (f : ℕ) → IsSome (slice_index_or nothing_written (field_word f) None) → A
+  none_written_yet : {A : Type 0} (f : ℕ)
+      → IsSome (slice_index_or nothing_written (field_word f) None) → A
   none_written_yet f some =
       let r = some_there (slice_index_or nothing_written (field_word f) None) some in
       absurd (none_written (field_word f) r.0 r.1)
 
   -- the references of a built version are written
-  refs_written : (c : Contents) → HasRoom p → IsBuilt p.hands.held p.draft.written c → (f : ℕ) → 0 < f
+  refs_written : (c : Contents) → HasRoom p → IsBuilt p.hands.held p.draft.written c → (f : ℕ)
+      → 0 < f
       → f < field_count → x.hands.written me f ≡ true
   refs_written c room built zero some low = absurd (omega (arith, some))
   refs_written c room built (suc f) some low =
       let r = built.refs f (omega (arith, low)) in
-      (written_stays ready) (suc f) low room (ap (λ (j : ℕ). is_some (slice_index_or p.draft.written j None))
+      (written_stays ready) (suc f) low room
+      (ap (λ (j : ℕ). is_some (slice_index_or p.draft.written j None))
       (omega arith)
       ∙ ap is_some r.1)
 
   -- an object that is not there is not in the store
-  not_stored : (n : Name) → contents_of (store_of h.history) n ≡ None → x.store.has (name_shown n) ≡ false
+  not_stored : (n : Name) → contents_of (store_of h.history) n ≡ None → x.store.has (name_shown n)
+      ≡ false
   not_stored n none = ⊎_elim
       (λ (t : x.store.has (name_shown n) ≡ true).
       let r = ready.shows.store (name_shown n) t in
       let same : n ≡ r.0 = name_once n r.0 r.2 in
-      let there : IsThere (store_of h.history) n = subst (IsThere (store_of h.history)) (sym same) r.1 in
+      let there : IsThere (store_of h.history) n = subst (IsThere (store_of h.history)) (sym same)
+      r.1 in
       absurd (let no : false ≡ true = sym (ap is_some none) ∙ there in cc))
       (λ (t : x.store.has (name_shown n) ≡ false). t)
       (cases_Bool (x.store.has (name_shown n)))
@@ -99,7 +109,8 @@ module _ {U : Type 0} {h : Heap} {seen : List Entry} {p : Part U} {moves : ℕ �
   name_new k is =
       let maker : k.name.maker ≡ p.number = ap (λ (n : Name). n.maker) is in
       let made : made_count p.number (store_of h.history) ≡ create_count p.calls.mine =
-      made_count-legal p.number p.site.start h.history ready.legal ∙ ap create_count ready.mine.calls.all in
+      made_count-legal p.number p.site.start h.history ready.legal ∙ ap create_count
+      ready.mine.calls.all in
       let count : k.name.count ≡ made_count p.number (store_of h.history) =
       ap (λ (n : Name). n.count) is ∙ sym made in
       fresh_name (store_of h.history) k.name (well_made_legal p.site.start h.history ready.legal)
@@ -124,7 +135,8 @@ module _ {U : Type 0} {h : Heap} {seen : List Entry} {p : Part U} {moves : ℕ �
   stored_one k none i has = ⊎_elim
       (λ (e : i ≡ name_shown k.name). (k.name, new_there k none, e))
       (λ (ne : i ≢ name_shown k.name).
-      let r = ready.shows.store i (sym (put_else x.store.has (name_shown k.name) true i ne) ∙ has) in
+      let r = ready.shows.store i (sym (put_else x.store.has (name_shown k.name) true i ne)
+      ∙ has) in
       (r.0, more_there (create k) r.0 r.1, r.2))
       (same_or_not i (name_shown k.name))
 
@@ -162,10 +174,13 @@ module _ {U : Type 0} {h : Heap} {seen : List Entry} {p : Part U} {moves : ℕ �
       let low : f < 4 = let less = fields_back ready (suc f) few in omega (arith, less) in
       let r = built.refs f low in
       let new_word : x.versions.word (x.hands.next me) (suc f) ≡ r.0 = next_field room (suc f) r.0
-      (fields_back ready (suc f) few) (subst (λ (j : ℕ). IsWritten p.draft.written j r.0) (omega arith)
+      (fields_back ready (suc f) few)
+      (subst (λ (j : ℕ). IsWritten p.draft.written j r.0) (omega arith)
       r.1) in
-      let old_word : x.versions.word (version_shown at.version) (suc f) ≡ words_at its h.words at (2 + f) =
-      ready.shows.words at.version (suc f) (low_there ready at there) (fields_back ready (suc f) few)
+      let old_word : x.versions.word (version_shown at.version) (suc f)
+      ≡ words_at its h.words at (2 + f) =
+      ready.shows.words at.version (suc f) (low_there ready at there)
+      (fields_back ready (suc f) few)
       ∙ ap (λ (j : ℕ). slice_index h.words (word_at its at.version j)) (omega arith) in
       let new_title = refers_title r.0 (reference_at k.contents f)
       (spelled r.0 (reference_at k.contents f) r.2) in
@@ -175,7 +190,8 @@ module _ {U : Type 0} {h : Heap} {seen : List Entry} {p : Part U} {moves : ℕ �
       ∙ (new_title ∙ (ap (λ (c : Contents). title_of (reference_at c f)) same
       ∙ (sym old_title ∙ ap (title x.versions) (sym old_word))))
 
-  has_hung : (at next : ℕ) (copy : Bool) → (entered x me (steps.Hang at next copy)).has ≡ x.store.has
+  has_hung : (at next : ℕ) (copy : Bool) → (entered x me (steps.Hang at next copy)).has
+      ≡ x.store.has
   has_hung at next true = refl
   has_hung at next false = refl
 
@@ -192,12 +208,14 @@ module _ {U : Type 0} {h : Heap} {seen : List Entry} {p : Part U} {moves : ℕ �
     publish k w may low = record {
       now = turned.after x me b step;
       acted = acted_of ready by_scan o (Publish k) w None (heap_after h p (Builds (Publish k)) w)
-          (turned.after x me b step).uses (turned.after x me b step).versions (turned.after x me b step).store
+          (turned.after x me b step).uses (turned.after x me b step).versions
+          (turned.after x me b step).store
           x.scan (turned.after x me b step).hands (turned.after x me b step).bare
           (good_step x me b step take ready.rules)
           (heap_published its h moves x ready.shows
           (slice_set h.words (word_at its (next_version p) 0) 0) (h.history ++ create k ∷ [])
-          (head_else its h.words (next_version p) 0 0) (put_word x.versions.word (x.hands.next me) 0 0)
+          (head_else its h.words (next_version p) 0 0)
+          (put_word x.versions.word (x.hands.next me) 0 0)
           (says_stored its h moves x ready.shows ready.wide (next_version p) 0 0 (x.hands.next me) 0
           (next_low ready first.room)
           record { low = omega arith; is = refl } (next_here ready first.room))
@@ -247,12 +265,14 @@ module _ {U : Type 0} {h : Heap} {seen : List Entry} {p : Part U} {moves : ℕ �
     pub hang : (at k : Known) (entry : Option Entry) (copy : Bool)
         → MayLink names make clean comes p at k entry
         → 0 ≡ link_of its h.words at → (copy ≡ true → k.contents ≡ at.contents)
-        → AreLow ready by_scan o (LinkStore at k entry) 0 → Turned ready by_scan o (LinkStore at k entry) 0
+        → AreLow ready by_scan o (LinkStore at k entry) 0 → Turned ready by_scan o
+        (LinkStore at k entry) 0
     hang at k entry copy may zero_link copies low = record {
       now = turned.after x me b step;
       acted = acted_of ready by_scan o (LinkStore at k entry) 0 None
           (heap_after h p (Builds (LinkStore at k entry)) 0)
-          (turned.after x me b step).uses (turned.after x me b step).versions (turned.after x me b step).store
+          (turned.after x me b step).uses (turned.after x me b step).versions
+          (turned.after x me b step).store
           x.scan (turned.after x me b step).hands (turned.after x me b step).bare
           (good_step x me b step take ready.rules)
           (heap_published its h moves x ready.shows
@@ -263,18 +283,22 @@ module _ {U : Type 0} {h : Heap} {seen : List Entry} {p : Part U} {moves : ℕ �
           (λ v f few small. ap (λ (n : ℕ). put_word x.versions.word (version_shown at.version) 0 n
           (version_shown v) f)
           next_word
-          ∙ says_stored its h moves x ready.shows ready.wide at.version 0 0 (version_shown at.version)
+          ∙ says_stored its h moves x ready.shows ready.wide at.version 0 0
+          (version_shown at.version)
           (naming_word (Some k.version)) (low_there ready at there) field_zero refl v f few small)
           x.scan (turned.after x me b step).hands (turned.after x me b step).bare
-          me its_row k (turned.after x me b step).store (x.versions.object (version_shown at.version))
-          (x.versions.rank (version_shown at.version) + 1) (its_row_low ready) (its_room ready next.room)
+          me its_row k (turned.after x me b step).store
+          (x.versions.object (version_shown at.version))
+          (x.versions.rank (version_shown at.version) + 1) (its_row_low ready)
+          (its_room ready next.room)
           (ap (λ (v : Version). v.0) next.version ∙ next_at ready)
           (ap (λ (v : Version). h.index v.0) next.version ∙ next_none next.room)
           (next_here ready next.room ∙ ap version_shown (sym next.version))
           (ready.shows.object at there ∙ ap name_shown (sym next.name))
           (ap (λ (n : ℕ). n + 1) (ready.shows.rank at there) ∙ sym next.rank)
           (λ i has. let r = ready.shows.store i
-          (ap (λ (f : ℕ → Bool). f i) (sym (has_hung (version_shown at.version) (next_shown P) copy))
+          (ap (λ (f : ℕ → Bool). f i)
+          (sym (has_hung (version_shown at.version) (next_shown P) copy))
           ∙ has) in
           (r.0, entry_there entry r.0 r.1, r.2)))
           (mark_stays ready) (passed_before ready (Some k)) (short_before ready (Some k)) refl
@@ -306,7 +330,8 @@ module _ {U : Type 0} {h : Heap} {seen : List Entry} {p : Part U} {moves : ℕ �
 
         all_written : (f : ℕ) → f < field_count → x.hands.written me f ≡ true
         all_written zero few = written_stays ready 0 few next.room (ap is_some next.link)
-        all_written (suc f) few = refs_written k.contents next.room next.built (suc f) (omega arith) few
+        all_written (suc f) few = refs_written k.contents next.room next.built (suc f) (omega arith)
+            few
 
         take : MayTake x me b step
         take = record {
@@ -314,7 +339,8 @@ module _ {U : Type 0} {h : Heap} {seen : List Entry} {p : Part U} {moves : ℕ �
           allowed = (
             record {
               look = look_into ready at may.look;
-              last = ready.shows.words at.version 0 (low_there ready at there) (omega arith) ∙ sym zero_link;
+              last = ready.shows.words at.version 0 (low_there ready at there) (omega arith)
+                  ∙ sym zero_link;
               place = has_place ready next.room;
               written = λ f few. all_written f (fields_back ready f few);
               link = next_field next.room 0 0 (omega arith) next.link;

@@ -61,7 +61,8 @@ module _ (s : Shape) (h : Heap) (moves : ℕ → ℕ) (x : State) (shows : Shows
   -- a version's region has the role of its row
   pub role_in : (v : Version) → v.0 < version_count s
       → x.roles (x.shape.region (version_shown v)) ≡ role_shown (h.places.role (row_in s v))
-  role_in v low = ap x.roles (region_row s h moves x shows v) ∙ shows.role (row_in s v) (row_low s v low)
+  role_in v low = ap x.roles (region_row s h moves x shows v) ∙ shows.role (row_in s v)
+      (row_low s v low)
 
   -- a published version lies at a used place of its row
   pub published_used : (k : Known) → IsPublished h.index k
@@ -74,13 +75,15 @@ module _ (s : Shape) (h : Heap) (moves : ℕ → ℕ) (x : State) (shows : Shows
       (subst (λ (n : ℕ). b.1 < h.places.used n) (sym row) b.5)
 
   -- which is not Free
-  pub published_kept : (k : Known) → IsPublished h.index k → h.places.role (row_in s k.version) ≢ Free
+  pub published_kept : (k : Known) → IsPublished h.index k → h.places.role (row_in s k.version)
+      ≢ Free
   published_kept k there = λ free.
       (published_live s h moves x shows rule placed k there).not_free
       (role_in k.version (placed.fits k there) ∙ ap role_shown free)
 
   -- nor dead
-  pub published_alive : (k : Known) → IsPublished h.index k → h.places.dead (row_in s k.version) ≡ false
+  pub published_alive : (k : Known) → IsPublished h.index k → h.places.dead (row_in s k.version)
+      ≡ false
   published_alive k there =
       let b = place_of_published s h moves x shows rule placed k there in
       ap h.places.dead (row_at s k.version b.0 b.1 b.3 b.4) ∙ b.6
@@ -100,27 +103,33 @@ module _ {U : Type 0} (lawful : U → PlainStore → Type 0) (allowed : U → Pl
   pub names_good : KeepsNames g.shape c.heap
   names_good = record {
     named = λ k i v there naming names.
-        names_published s c.heap col.moves col.state col.heap col.rule placed k i v there naming names;
+        names_published s c.heap col.moves col.state col.heap col.rule placed k i v there naming
+        names;
   }
 
   -- what is reached is published
-  reached : (v : Version) → Reached s c v → (k : Known) × IsPublished c.heap.index k × (k.version ≡ v)
+  reached : (v : Version) → Reached s c v → (k : Known) × IsPublished c.heap.index k
+      × (k.version ≡ v)
   reached v (held j k w p m at there) = (m, (good.parts j k w p at).hands.held m there, refl)
   reached v (named u w i r naming names) =
       let k = reached u r in
       let word : words_at s c.heap.words k.0 i ≡ suc w.0 =
-      ap (λ (z : Version). slice_index c.heap.words (word_at s z i)) k.2 ∙ (names ∙ naming_next w) in
-      let m = names_published s c.heap col.moves col.state col.heap col.rule placed k.0 i w.0 k.1 naming
+      ap (λ (z : Version). slice_index c.heap.words (word_at s z i)) k.2
+      ∙ (names ∙ naming_next w) in
+      let m = names_published s c.heap col.moves col.state col.heap col.rule placed k.0 i w.0 k.1
+      naming
       word in
       (m.0, m.1, λ j. record { 0 = m.2 j })
 
   -- a caller's next version is not published
   next_unused : (p : Part U) (h : Heap) (seen : List Entry) → PartIsGood g h seen p
-      → ArePlaced s h.index h.places.dead h.places.used → HasRoom p → h.index (next_version p).0 ≡ None
+      → ArePlaced s h.index h.places.dead h.places.used → HasRoom p → h.index (next_version p).0
+      ≡ None
   next_unused p h seen mine are room =
       let low : p.draft.used < s.versions =
       subst (λ (z : Site U). p.draft.used < z.shape.versions) mine.site room in
-      ap (λ (z : Site U). h.index (version_at z.shape p.number p.draft.region p.draft.used).0) mine.site
+      ap (λ (z : Site U). h.index (version_at z.shape p.number p.draft.region p.draft.used).0)
+      mine.site
       ∙ are.unused (row_of s p.number p.draft.region) p.draft.used
       (row_below s p.number p.draft.region mine.number mine.draft.region) low
       (let is = mine.draft.used in omega arith)

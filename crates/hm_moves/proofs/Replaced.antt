@@ -4,7 +4,8 @@ use Rattle.hm_moves.proofs.Words.{some, get_elem?, Entry, Part, View, view, Carr
 use Rattle.hm_moves.proofs.Places.{at_set}
 
 -- `seen` is what the seat `id` has seen afterwards, and `new` what its caller p at a place became
-module _ {U : Type 0} (views : List (View U)) (id place : ℕ) (v : View U) (p new : Part U) (seen : List Entry)
+module _ {U : Type 0} (views : List (View U)) (id place : ℕ) (v : View U) (p new : Part U)
+    (seen : List Entry)
     (at : Carries views id place v p) (number : new.number ≡ p.number) where
   -- the seat afterwards
   abbrev pub seat_now : View U
@@ -63,16 +64,20 @@ module _ {U : Type 0} (views : List (View U)) (id place : ℕ) (v : View U) (p n
       (either_seat j u t.seat)
 
   -- so no caller is carried twice
-  pub apart_now : ((j k m n : ℕ) (u w : View U) (q r : Part U) → Carries views j k u q → Carries views m n w r
+  pub apart_now : ((j k m n : ℕ) (u w : View U) (q r : Part U) → Carries views j k u q
+      → Carries views m n w r
       → q.number ≡ r.number → (j ≡ m) × (k ≡ n))
-      → (j k m n : ℕ) (u w : View U) (q r : Part U) → Carries views_now j k u q → Carries views_now m n w r
+      → (j k m n : ℕ) (u w : View U) (q r : Part U) → Carries views_now j k u q → Carries views_now
+      m n w r
       → q.number ≡ r.number → (j ≡ m) × (k ≡ n)
   apart_now apart j k m n u w q r s t same =
       let a = stood j k u q s in
       let b = stood m n w r t in
-      apart j k m n a.old_view b.old_view a.old b.old a.carries b.carries (a.same ∙ (same ∙ sym b.same))
+      apart j k m n a.old_view b.old_view a.old b.old a.carries b.carries
+      (a.same ∙ (same ∙ sym b.same))
 
-  -- what holds of the one that changed, of the others of its seat, and of those of other seats, holds of all
+  -- what holds of the one that changed, of the others of its seat, and of those of other seats,
+  -- holds of all
   pub by_part : (P : List Entry → Part U → Type 0) → P seen new
       → ((k : ℕ) (q : Part U) → k ≢ place → get_elem? v.parts k ≡ some q → P seen q)
       → ((j k : ℕ) (u : View U) (q : Part U) → j ≢ id → Carries views j k u q → P u.seen q)
@@ -83,7 +88,8 @@ module _ {U : Type 0} (views : List (View U)) (id place : ℕ) (v : View U) (p n
         either_seat j u s.seat,
         either_part k u q,
         along k q,
-        λ (ne : j ≢ id) (t : get_elem? views j ≡ some u). beside j k u q ne record { seat = t; place = s.place },
+        λ (ne : j ≢ id) (t : get_elem? views j ≡ some u). beside j k u q ne
+            record { seat = t; place = s.place },
       )
 
   -- and so of what seats have seen

@@ -32,8 +32,10 @@ split_row base row low = omega arith
 -- two rows of a caller are one where their regions are
 pub same_region : (base g r : ℕ) → (base + g == base + r) ≡ (g == r)
 same_region base g r = ⊎_elim
-    (λ (e : ((g == r) ≡ true) × (g ≡ r)). eq-eqb (base + g) (base + r) (ap (λ n. base + n) e.1) ∙ sym e.0)
-    (λ (e : ((g == r) ≡ false) × (g ≢ r)). ne_eqb (base + g) (base + r) (λ z. e.1 (omega arith)) ∙ sym e.0)
+    (λ (e : ((g == r) ≡ true) × (g ≡ r)). eq-eqb (base + g) (base + r) (ap (λ n. base + n) e.1)
+    ∙ sym e.0)
+    (λ (e : ((g == r) ≡ false) × (g ≢ r)). ne_eqb (base + g) (base + r) (λ z. e.1 (omega arith))
+    ∙ sym e.0)
     (eqb_tells g r)
 
 module _ (s : Shape) (q : ℕ) where
@@ -67,15 +69,18 @@ module _ (s : Shape) (q : ℕ) where
   pub role_own : (roles : Roles) (freed : ℕ → Bool) (places : Places) (g : ℕ) → g < s.regions
       → (with_roles s q roles freed places).role (row_of s q g) ≡ role_at roles g
   role_own roles freed places g low =
-      ap (λ e. if e then role_at roles (row_of s q g - q * s.regions) else places.role (row_of s q g))
+      ap (λ e. if e then role_at roles (row_of s q g - q * s.regions)
+      else places.role (row_of s q g))
       (own_row g low)
       ∙ ap (role_at roles) (less_base (q * s.regions) g)
 
   -- and not of others
-  pub role_else : (roles : Roles) (freed : ℕ → Bool) (places : Places) (r g : ℕ) → g < s.regions → r ≢ q
+  pub role_else : (roles : Roles) (freed : ℕ → Bool) (places : Places) (r g : ℕ) → g < s.regions → r
+      ≢ q
       → (with_roles s q roles freed places).role (row_of s r g) ≡ places.role (row_of s r g)
   role_else roles freed places r g low ne =
-      ap (λ e. if e then role_at roles (row_of s r g - q * s.regions) else places.role (row_of s r g))
+      ap (λ e. if e then role_at roles (row_of s r g - q * s.regions)
+      else places.role (row_of s r g))
       (else_row r g low ne)
 
 -- roles that change one by one
@@ -92,7 +97,8 @@ changed_at roles change g free = role_changed change roles.0 g free
 -- and one of them becomes To
 pub taking_at : (roles : Roles) (change : Role → Role) (region g : ℕ) → change Free ≡ Free
     → region < length roles.0
-    → role_at (taking roles change region) g ≡ (if g == region then To else change (role_at roles g))
+    → role_at (taking roles change region) g
+    ≡ (if g == region then To else change (role_at roles g))
 taking_at roles change region g free low = ⊎_elim
     (λ (e : ((g == region) ≡ true) × (g ≡ region)).
     ap (λ n. slice_index_or (slice_set (map change roles.0) region To) n Free) e.1
@@ -156,7 +162,8 @@ turned_not_to To is = grind arith
 turned_not_to Old is = grind arith
 turned_not_to From is = grind arith
 
-pub taken_only : (g region : ℕ) (r : Role) → (if g == region then To else r) ≡ To → r ≢ To → g ≡ region
+pub taken_only : (g region : ℕ) (r : Role) → (if g == region then To else r) ≡ To → r ≢ To → g
+    ≡ region
 taken_only g region r is ne = ⊎_elim
     (λ (e : ((g == region) ≡ true) × (g ≡ region)). e.1)
     (λ (e : ((g == region) ≡ false) × (g ≢ region)).

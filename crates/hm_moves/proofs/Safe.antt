@@ -13,7 +13,8 @@ use Rattle.hm_moves.proofs.Held.{from_some}
 use Rattle.hm_moves.proofs.Reaching.{reach_good, names_good}
 use Rattle.hm_moves.proofs.Cycled.{cycle_good}
 
-forward : (index : Index) (store : PlainStore) (k : Known) (w : ℕ) → IsLinked index store k w → IsForward
+forward : (index : Index) (store : PlainStore) (k : Known) (w : ℕ) → IsLinked index store k w
+    → IsForward
     index k w
 forward index store k zero h = tt
 forward index store k (suc v) h = h
@@ -40,7 +41,8 @@ module _ {U : Type 0} (lawful : U → PlainStore → Type 0) (allowed : U → Pl
           ranks = chained.apart;
           last = λ k m a b same x y.
               let low = chained.top k m a b same x in
-              let high = chained.top m k b a (sym same) y in chained.apart k m a b same (omega arith);
+              let high = chained.top m k b a (sym same) y in chained.apart k m a b same
+              (omega arith);
         };
         ranks = record {
           ranks = λ k is. let low = good.heap.ranked.ranks k is in omega arith;
@@ -51,13 +53,15 @@ module _ {U : Type 0} (lawful : U → PlainStore → Type 0) (allowed : U → Pl
         history = record {
           legal = good.heap.history.legal;
           seen = good.seen;
-          calls = λ j k v p at. let part = good.parts j k v p at in (part.calls.all, part.calls.seen);
+          calls = λ j k v p at. let part = good.parts j k v p at in
+              (part.calls.all, part.calls.seen);
         };
       }
 
   module _ (laws : (u : U) → UsageLaws (lawful u) (allowed u)) where
     -- every machine that a good one leads to is good
-    pub good_always : (c d : Core U) → Good lawful allowed g c → Leads lawful allowed c d → Good lawful
+    pub good_always : (c d : Core U) → Good lawful allowed g c → Leads lawful allowed c d
+        → Good lawful
         allowed g d
     good_always c _ good here = good
     good_always c _ good (moved d id place v p m l at may) =
@@ -70,21 +74,27 @@ module _ {U : Type 0} (lawful : U → PlainStore → Type 0) (allowed : U → Pl
         good_join lawful allowed g d id v (good_always c d good l) at other w apart there
 
     -- so every machine that a fresh one leads to is safe
-    pub safe_always : (c d : Core U) → IsSizedStart g.start → starting_count g.start ≤ g.shape.versions
-        → IsFreshCore g c → lawful g.usage (store_of (opening_of g.start)) → Leads lawful allowed c d → IsSafe
+    pub safe_always : (c d : Core U) → IsSizedStart g.start → starting_count g.start ≤
+        g.shape.versions
+        → IsFreshCore g c → lawful g.usage (store_of (opening_of g.start)) → Leads lawful allowed c
+        d → IsSafe
         g d
     safe_always c d sized room fresh now l =
         safe_good d (good_always c d (good_fresh lawful allowed g sized room c fresh now) l)
 
-module _ {U : Type 0} (lawful : U → PlainStore → Type 0) (allowed : U → PlainStore → Entry → Type 0) where
+module _ {U : Type 0} (lawful : U → PlainStore → Type 0)
+    (allowed : U → PlainStore → Entry → Type 0) where
   -- a version that a move publishes is not one that is reached
-  pub given_again : (g : Site U) (c : Core U) (id place : ℕ) (v : View U) (p : Part U) (m : Move) (w : Version)
-      (k : Known) → Good lawful allowed g c → Carries c.views id place v p → IsLawfulMove lawful allowed c.heap p m
+  pub given_again : (g : Site U) (c : Core U) (id place : ℕ) (v : View U) (p : Part U) (m : Move)
+      (w : Version)
+      (k : Known) → Good lawful allowed g c → Carries c.views id place v p → IsLawfulMove lawful
+      allowed c.heap p m
       → Reached g.shape c w → publishes m.act (slice_index c.heap.words (word_of p m.act)) ≡ Some k
       → k.version ≢ w
   given_again g c id place v p m w k good at may reached is same =
       let site : p.site ≡ g = (good.parts id place v p at).site in
-      let own : Good lawful allowed p.site c = subst (λ (z : Site U). Good lawful allowed z c) (sym site) good in
+      let own : Good lawful allowed p.site c = subst (λ (z : Site U). Good lawful allowed z c)
+      (sym site) good in
       let mine = own.parts id place v p at in
       let next = from_some (λ n. (n.version ≡ next_version p) × HasRoom p)
       (publishes m.act (slice_index c.heap.words (word_of p m.act))) k is
@@ -92,4 +102,5 @@ module _ {U : Type 0} (lawful : U → PlainStore → Type 0) (allowed : U → Pl
       (λ e. Stands (store_of c.heap.history) e → allowed p.site.usage (store_of c.heap.history) e)
       (HoldsClean c.heap.words p) (IsLaterThan p.site.shape c.heap) m.act may.act
       (slice_index c.heap.words (word_of p m.act))) in
-      (reach_good lawful allowed g c good).given w id place v p reached at next.1 (sym same ∙ next.0)
+      (reach_good lawful allowed g c good).given w id place v p reached at next.1
+      (sym same ∙ next.0)

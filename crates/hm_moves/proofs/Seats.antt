@@ -39,7 +39,8 @@ module _ {U : Type 0} (lawful : U → PlainStore → Type 0) (allowed : U → Pl
           (((j ≡ length c.views) × (seat ≡ id) × (place ≡ length left + k)) ⊎
           ((j ≢ id) × (j < length c.views) × (seat ≡ j) × (place ≡ k)))
 
-    came : (j k : ℕ) (u : View U) (q : Part U) → Carries (split c id v left right).views j k u q → Came j k u
+    came : (j k : ℕ) (u : View U) (q : Part U) → Carries (split c id v left right).views j k u q
+        → Came j k u
         q
     came j k u q s = ⊎_elim
         (λ (t : (j ≡ length (set c.views id (view v.seen left))) × (view v.seen right ≡ u)).
@@ -59,7 +60,8 @@ module _ {U : Type 0} (lawful : U → PlainStore → Type 0) (allowed : U → Pl
         (get_elem? (set c.views id (view v.seen left)) j ≡ some u)).
         ⊎_elim
         (λ (r : (j ≡ id) × (view v.seen left ≡ u)).
-        let here : get_elem? left k ≡ some q = ap (λ (z : View U). get_elem? z.parts k) r.1 ∙ s.place in
+        let here : get_elem? left k ≡ some q = ap (λ (z : View U). get_elem? z.parts k) r.1
+        ∙ s.place in
         record {
           seat = id;
           place = k;
@@ -84,7 +86,8 @@ module _ {U : Type 0} (lawful : U → PlainStore → Type 0) (allowed : U → Pl
         (at_set c.views id j (view v.seen left) u t.1))
         (at_end (set c.views id (view v.seen left)) (view v.seen right) u j s.seat)
 
-    split_seen : (j : ℕ) (u : View U) → get_elem? (split c id v left right).views j ≡ some u → Begins u.seen
+    split_seen : (j : ℕ) (u : View U) → get_elem? (split c id v left right).views j ≡ some u
+        → Begins u.seen
         c.heap.history
     split_seen j u there =
         grind (
@@ -99,7 +102,8 @@ module _ {U : Type 0} (lawful : U → PlainStore → Type 0) (allowed : U → Pl
     good_split = record {
       heap = good.heap;
       seen = split_seen;
-      parts = λ j k u q s. let b = came j k u q s in subst (λ (l : List Entry). PartIsGood g c.heap l q)
+      parts = λ j k u q s. let b = came j k u q s in
+          subst (λ (l : List Entry). PartIsGood g c.heap l q)
           b.same (good.parts b.seat b.place b.old q b.stood);
       apart = λ j k m n u u' q q' s s' same.
           let a = came j k u q s in
@@ -115,9 +119,11 @@ module _ {U : Type 0} (lawful : U → PlainStore → Type 0) (allowed : U → Pl
         parts = λ j k u q s. let a = came j k u q s in
             good.collects.parts a.seat a.place a.old q a.stood;
       };
+      met = λ j k u q s. let a = came j k u q s in good.met a.seat a.place a.old q a.stood;
     }
 
-  module _ (other : ℕ) (w : View U) (apart : other ≢ id) (there : get_elem? c.views other ≡ some w) where
+  module _ (other : ℕ) (w : View U) (apart : other ≢ id)
+      (there : get_elem? c.views other ≡ some w) where
     -- a view afterwards is spent, the joined one, or one from before
     after_join : (j : ℕ) (u : View U) → get_elem? (joined c id v other w).views j ≡ some u
         → ((j ≡ other) × (spent_view ≡ u)) ⊎ (((j ≡ id) × (joined_view v w ≡ u)) ⊎
@@ -142,9 +148,11 @@ module _ {U : Type 0} (lawful : U → PlainStore → Type 0) (allowed : U → Pl
           ((j ≢ id) × (j ≢ other) × (seat ≡ j) × (place ≡ k)))
 
     longer_seen : Begins (longer v.seen w.seen) c.heap.history
-    longer_seen = begins_longer v.seen w.seen c.heap.history (good.seen id v at) (good.seen other w there)
+    longer_seen = begins_longer v.seen w.seen c.heap.history (good.seen id v at)
+        (good.seen other w there)
 
-    merged : (j k : ℕ) (u : View U) (q : Part U) → Carries (joined c id v other w).views j k u q → Merged j k
+    merged : (j k : ℕ) (u : View U) (q : Part U) → Carries (joined c id v other w).views j k u q
+        → Merged j k
         u q
     merged j k u q s = ⊎_elim
         (λ (t : (j ≡ other) × (spent_view ≡ u)). absurd
@@ -159,7 +167,8 @@ module _ {U : Type 0} (lawful : U → PlainStore → Type 0) (allowed : U → Pl
           old = v;
           stood = record { seat = at; place = y.1 };
           further = subst (λ (z : View U). Begins v.seen z.seen) r.1
-              (left_begins v.seen w.seen c.heap.history (good.seen id v at) (good.seen other w there));
+              (left_begins v.seen w.seen c.heap.history (good.seen id v at)
+              (good.seen other w there));
           begins = subst (λ (z : View U). Begins z.seen c.heap.history) r.1 longer_seen;
           how = inl (r.0, refl, refl, y.0);
         })
@@ -170,7 +179,8 @@ module _ {U : Type 0} (lawful : U → PlainStore → Type 0) (allowed : U → Pl
           old = w;
           stood = record { seat = there; place = y.2 };
           further = subst (λ (z : View U). Begins w.seen z.seen) r.1
-              (right_begins v.seen w.seen c.heap.history (good.seen id v at) (good.seen other w there));
+              (right_begins v.seen w.seen c.heap.history (good.seen id v at)
+              (good.seen other w there));
           begins = subst (λ (z : View U). Begins z.seen c.heap.history) r.1 longer_seen;
           how = inr (inl (r.0, refl, y.1));
         })
@@ -190,7 +200,8 @@ module _ {U : Type 0} (lawful : U → PlainStore → Type 0) (allowed : U → Pl
         (after_join j u s.seat)
 
     -- a caller in a seat that has seen more
-    part_further : (seen seen' : List Entry) (q : Part U) → Begins seen seen' → Begins seen' c.heap.history
+    part_further : (seen seen' : List Entry) (q : Part U) → Begins seen seen'
+        → Begins seen' c.heap.history
         → PartIsGood g c.heap seen q → PartIsGood g c.heap seen' q
     part_further seen seen' q more begins k = record {
       site = k.site;
@@ -199,7 +210,8 @@ module _ {U : Type 0} (lawful : U → PlainStore → Type 0) (allowed : U → Pl
       hands = k.hands;
       calls = record {
         all = k.calls.all;
-        seen = calls_between q.number seen seen' c.heap.history q.calls.mine more begins k.calls.all k.calls.seen;
+        seen = calls_between q.number seen seen' c.heap.history q.calls.mine more begins k.calls.all
+            k.calls.seen;
         opened = begins_on (opening_of g.start) seen seen' k.calls.opened more;
       };
     }
@@ -207,15 +219,18 @@ module _ {U : Type 0} (lawful : U → PlainStore → Type 0) (allowed : U → Pl
     pub good_join : Good lawful allowed g (joined c id v other w)
     good_join = record {
       heap = good.heap;
-      seen = λ j u h. let none : Begins [] c.heap.history = record { rest = c.heap.history; is = refl } in
+      seen = λ j u h.
+          let none : Begins [] c.heap.history = record { rest = c.heap.history; is = refl } in
           grind (arith, after_join j u h, longer_seen, good.seen j u);
-      parts = λ j k u q s. let m = merged j k u q s in part_further m.old.seen u.seen q m.further m.begins
+      parts = λ j k u q s. let m = merged j k u q s in part_further m.old.seen u.seen q m.further
+          m.begins
           (good.parts m.seat m.place m.old q m.stood);
       apart = λ j k m n u u' q q' s s' same.
           let a = merged j k u q s in
           let b = merged m n u' q' s' in
           let e = good.apart a.seat a.place b.seat b.place a.old b.old q q' a.stood b.stood same in
-          join_once id other (length v.parts) j k a.seat a.place m n b.seat b.place apart a.how b.how e.0 e.1;
+          join_once id other (length v.parts) j k a.seat a.place m n b.seat b.place apart a.how
+          b.how e.0 e.1;
       collects = record {
         state = good.collects.state;
         moves = good.collects.moves;
@@ -224,6 +239,7 @@ module _ {U : Type 0} (lawful : U → PlainStore → Type 0) (allowed : U → Pl
         parts = λ j k u q s. let a = merged j k u q s in
             good.collects.parts a.seat a.place a.old q a.stood;
       };
+      met = λ j k u q s. let a = merged j k u q s in good.met a.seat a.place a.old q a.stood;
     }
 
     -- a caller whose seat was joined stays, as it is, behind those of the seat that took it
@@ -236,7 +252,8 @@ module _ {U : Type 0} (lawful : U → PlainStore → Type 0) (allowed : U → Pl
     }
 
   -- a seat that carries every caller has seen all
-  pub whole : ((q : ℕ) → q < g.shape.callers → (k : ℕ) × (p : Part U) × (get_elem? v.parts k ≡ some p) ×
+  pub whole : ((q : ℕ) → q < g.shape.callers → (k : ℕ) × (p : Part U)
+      × (get_elem? v.parts k ≡ some p) ×
       (p.number ≡ q)) → c.heap.history ≡ v.seen
   whole all =
       let b = good.seen id v at in
@@ -248,5 +265,6 @@ module _ {U : Type 0} (lawful : U → PlainStore → Type 0) (allowed : U → Pl
       let mine : List Entry = a.1.calls.mine in
       let made = k.calls.all in let seen = k.calls.seen in let number = a.3 in let is = b.is in
       let both = calls_of-append q v.seen b.rest in nothing_more mine (calls_of q b.rest) (cc) in
-      b.is ∙ (ap (λ (l : List Entry). v.seen ++ l) (none_made g.shape.callers b.rest below none) ∙ append-nil
+      b.is ∙ (ap (λ (l : List Entry). v.seen ++ l) (none_made g.shape.callers b.rest below none)
+      ∙ append-nil
       v.seen)

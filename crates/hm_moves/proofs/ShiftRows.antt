@@ -28,7 +28,8 @@ pub row_split : (s : Shape) (q row : ℕ) → is_row_of s q row ≡ true
 row_split s q row is = grind (arith, nat_tests)
 
 -- and none of another caller
-pub row_else : (s : Shape) (q r g : ℕ) → q ≢ r → g < s.regions → is_row_of s r (row_of s q g) ≡ false
+pub row_else : (s : Shape) (q r g : ℕ) → q ≢ r → g < s.regions → is_row_of s r (row_of s q g)
+    ≡ false
 row_else s q r g apart low = ⊎_elim
     (λ (e : is_row_of s r (row_of s q g) ≡ true). let at = row_split s r (row_of s q g) e in
     absurd (apart (same_row q r s.regions g (row_of s q g - r * s.regions) low at.0 at.1)))
@@ -103,14 +104,17 @@ taken_to roles change region low =
     (subst (λ n. region < n) (sym (length-map roles.0 change)) low)
 
 -- and the others change
-pub taken_else : (roles : Roles) (change : Role → Role) (region g : ℕ) → g ≢ region → g < length roles.0
+pub taken_else : (roles : Roles) (change : Role → Role) (region g : ℕ) → g ≢ region
+    → g < length roles.0
     → role_at (taking roles change region) g ≡ change (role_at roles g)
 taken_else roles change region g ne low =
-    get_or-set_other (map change roles.0) region g To Free ne ∙ get_or-map change roles.0 g Free Free low
+    get_or-set_other (map change roles.0) region g To Free ne ∙ get_or-map change roles.0 g Free
+    Free low
 
 -- what lists as left behind still
 pub left_cases : (b : Bool) (left own : List Known) (k : Known)
-    → Contains ((if b then [] else left) ++ own) k → ((b ≡ false) × Contains left k) ⊎ Contains own k
+    → Contains ((if b then [] else left) ++ own) k → ((b ≡ false) × Contains left k)
+    ⊎ Contains own k
 left_cases true left own k there = inr there
 left_cases false left own k there = ⊎_elim (λ (c : Contains left k). inl (refl, c))
     (λ (c : Contains own k). inr c) (Contains-append_cases left own k there)
@@ -152,7 +156,8 @@ pub not_both_right : (dead freed : Bool) → freed ≡ true → (dead && not fre
 not_both_right dead freed e = grind arith
 
 -- one that is not dead and not freed was not
-pub not_freed : (dead freed frees : Bool) → (dead && not freed) ≡ false → (freed ≡ true → frees ≡ true)
+pub not_freed : (dead freed frees : Bool) → (dead && not freed) ≡ false
+    → (freed ≡ true → frees ≡ true)
     → frees ≡ false → dead ≡ false
 not_freed dead freed frees e f g = grind arith
 
@@ -168,7 +173,8 @@ no_free Old e f = cc
 no_free From e f = cc
 
 -- dead rows that are freed once more may be filled once more
-pub ranked_freed : (s : Shape) (index : Index) (q : ℕ) (roles : Roles) (freed : ℕ → Bool) (places : Places)
+pub ranked_freed : (s : Shape) (index : Index) (q : ℕ) (roles : Roles) (freed : ℕ → Bool)
+    (places : Places)
     → ((row : ℕ) → places.used row ≤ s.versions)
     → ((row : ℕ) → freed row ≡ true → places.freed row < places.done) → AreRanked s index places
     → AreRanked s index (with_roles s q roles freed places)
@@ -189,7 +195,8 @@ pub record SameRow (a b : Places) (row : ℕ) : Type 0 where
   pub dead : b.dead row ≡ a.dead row
 
 -- the rows of another caller are
-pub same_else : (s : Shape) (q r : ℕ) (roles : Roles) (freed : ℕ → Bool) (places : Places) (g : ℕ) → r ≢ q
+pub same_else : (s : Shape) (q r : ℕ) (roles : Roles) (freed : ℕ → Bool) (places : Places) (g : ℕ)
+    → r ≢ q
     → g < s.regions → freed (row_of s r g) ≡ false
     → SameRow places (with_roles s q roles freed places) (row_of s r g)
 same_else s q r roles freed places g apart low stays =
@@ -229,11 +236,14 @@ module _ (s : Shape) (q : ℕ) (a b : Places)
   }
 
   -- and a draft
-  pub drafting_same : (d : Draft) (held : List Known) (h : Heap) (words : List ℕ) (history : List Entry)
+  pub drafting_same : (d : Draft) (held : List Known) (h : Heap) (words : List ℕ)
+      (history : List Entry)
       → h.places ≡ a
-      → ((v : Version) (i : ℕ) → slice_index words (word_at s v i) ≡ slice_index h.words (word_at s v i))
+      → ((v : Version) (i : ℕ) → slice_index words (word_at s v i) ≡ slice_index h.words
+      (word_at s v i))
       → IsDrafting s q d held h
-      → IsDrafting s q d held record { words = words; index = h.index; places = b; history = history }
+      → IsDrafting s q d held
+      record { words = words; index = h.index; places = b; history = history }
   drafting_same d held h words history is beside was =
       let row = same d.region was.region in record {
         region = was.region;

@@ -12,7 +12,8 @@ naming_cases (suc (suc f)) h = inr (f, grind (arith, nat_tests), omega arith)
 
 pub naming_low : (i : ℕ) → is_naming i ≡ true → i < 16
 naming_low i h = ⊎_elim (λ (e : i ≡ 0). omega arith)
-    (λ (e : (f : ℕ) × (f < 4) × (i ≡ 2 + f)). let a = e.1 in let b = e.2 in omega arith) (naming_cases i h)
+    (λ (e : (f : ℕ) × (f < 4) × (i ≡ 2 + f)). let a = e.1 in let b = e.2 in omega arith)
+    (naming_cases i h)
 
 module _ (s : Shape) (words : List ℕ) (index : Index) (at was target : Known) (i : ℕ)
     (wide : length words ≡ word_count s) (fits : IsVersionOf s at.version) (low : i < 16)
@@ -29,7 +30,8 @@ module _ (s : Shape) (words : List ℕ) (index : Index) (at was target : Known) 
   -- and any other
   else_now : (k : Known) (j : ℕ) → j < 16 → (k.version.0 ≢ at.version.0) ⊎ (j ≢ i)
       → words_at s now k j ≡ words_at s words k j
-  else_now k j small n = elsewhere s words k.version at.version j i (naming_word (Some target.version)) small low n
+  else_now k j small n = elsewhere s words k.version at.version j i
+      (naming_word (Some target.version)) small low n
 
   -- what it named is known from what it refers to
   refers_was : (r : Option Name) → Refers index (words_at s words at i) r → r ≡ Some was.name
@@ -40,7 +42,8 @@ module _ (s : Shape) (words : List ℕ) (index : Index) (at was target : Known) 
       let one : was ≡ k = published_once index k was h.1 there number in
       ap Some (sym h.3 ∙ ap (λ (x : Known). x.name) (sym one))
 
-  refers_now : (r : Option Name) → Refers index (words_at s words at i) r → Refers index (words_at s now at i) r
+  refers_now : (r : Option Name) → Refers index (words_at s words at i) r
+      → Refers index (words_at s now at i) r
   refers_now None h = absurd (omega (arith, h, named))
   refers_now (Some n) h =
       let e : Some n ≡ Some was.name = refers_was (Some n) h in
@@ -69,7 +72,8 @@ module _ (s : Shape) (words : List ℕ) (index : Index) (at was target : Known) 
   -- contents are as before
   pub true_shorter : is_naming i ≡ true → AreTrue s words index → AreTrue s now index
   true_shorter naming h k is = let x = h k is in record {
-    stamp = body_else k 1 (omega arith) (λ e. let bad : is_naming 1 ≡ true = ap is_naming e ∙ naming in cc)
+    stamp = body_else k 1 (omega arith) (λ e. let bad : is_naming 1 ≡ true = ap is_naming e
+        ∙ naming in cc)
         ∙ x.stamp;
     refs = λ f small. ref_now k f (reference_at k.contents f) is small (x.refs f small);
     numbers = λ f small. body_else k (6 + f) (omega arith)
@@ -78,15 +82,18 @@ module _ (s : Shape) (words : List ℕ) (index : Index) (at was target : Known) 
 
   module _ (store : PlainStore) (h : AreChained s words index store) where
     -- a link that is shortened is one still
-    link_at_now : i ≡ 0 → IsLinked index store at (link_of s words at) → IsLinked index store at (link_of s now at)
+    link_at_now : i ≡ 0 → IsLinked index store at (link_of s words at) → IsLinked index store at
+        (link_of s now at)
     link_at_now e old =
-        let zeroth : words_at s words at 0 ≡ naming_word (Some was.version) = ap (λ (j : ℕ). words_at s words at j) (sym e) ∙ named in
+        let zeroth : words_at s words at 0 ≡ naming_word (Some was.version) = ap
+        (λ (j : ℕ). words_at s words at j) (sym e) ∙ named in
         let next : naming_word (Some was.version) ≡ suc was.version.0 = omega arith in
         let suc_link : IsLinked index store at (suc was.version.0) =
         subst (IsLinked index store at) (zeroth ∙ next) old in
         let before = suc_link.2 in
         let number : was.version.0 ≡ suc_link.0.version.0 = sym suc_link.1 in
-        let one : was ≡ suc_link.0 = published_once index suc_link.0 was before.published there number in
+        let one : was ≡ suc_link.0 = published_once index suc_link.0 was before.published there
+        number in
         let name : was.name ≡ at.name = ap (λ (x : Known). x.name) one ∙ before.same in
         let rank_was : was.rank ≡ suc_link.0.rank = ap (λ (x : Known). x.rank) one in
         let further = before.rank in
@@ -100,9 +107,11 @@ module _ (s : Shape) (words : List ℕ) (index : Index) (at was target : Known) 
         (λ (e : ((k.version.0 == at.version.0) ≡ true) × (k.version.0 ≡ at.version.0)). ⊎_elim
         (λ (d : ((i == 0) ≡ true) × (i ≡ 0)).
         let one : k ≡ at = published_once index at k here is e.1 in
-        subst (λ (x : Known). IsLinked index store x (link_of s now x)) (sym one) (link_at_now d.1 (h.link at here)))
+        subst (λ (x : Known). IsLinked index store x (link_of s now x)) (sym one)
+        (link_at_now d.1 (h.link at here)))
         (λ (d : ((i == 0) ≡ false) × (i ≢ 0)).
-        subst (IsLinked index store k) (sym (body_else k 0 (omega arith) (λ x. d.1 (sym x)))) (h.link k is))
+        subst (IsLinked index store k) (sym (body_else k 0 (omega arith) (λ x. d.1 (sym x))))
+        (h.link k is))
         (eqb_tells i 0))
         (λ (e : ((k.version.0 == at.version.0) ≡ false) × (k.version.0 ≢ at.version.0)).
         subst (IsLinked index store k) (sym (else_now k 0 (omega arith) (inl e.1))) (h.link k is))
@@ -115,9 +124,11 @@ module _ (s : Shape) (words : List ℕ) (index : Index) (at was target : Known) 
         (λ (d : ((i == 0) ≡ true) × (i ≡ 0)).
         let one : k ≡ at = published_once index at k here is e.1 in
         let bad : naming_word (Some target.version) ≡ 0 =
-        sym (ap (λ (j : ℕ). words_at s now at j) (sym d.1) ∙ at_now) ∙ (ap (λ (x : Known). link_of s now x) (sym one) ∙ z) in
+        sym (ap (λ (j : ℕ). words_at s now at j) (sym d.1) ∙ at_now)
+        ∙ (ap (λ (x : Known). link_of s now x) (sym one) ∙ z) in
         absurd (omega arith))
-        (λ (d : ((i == 0) ≡ false) × (i ≢ 0)). sym (body_else k 0 (omega arith) (λ x. d.1 (sym x))) ∙ z)
+        (λ (d : ((i == 0) ≡ false) × (i ≢ 0)). sym (body_else k 0 (omega arith) (λ x. d.1 (sym x)))
+        ∙ z)
         (eqb_tells i 0))
         (λ (e : ((k.version.0 == at.version.0) ≡ false) × (k.version.0 ≢ at.version.0)).
         sym (else_now k 0 (omega arith) (inl e.1)) ∙ z)

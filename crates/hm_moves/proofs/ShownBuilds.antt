@@ -35,23 +35,27 @@ module _ {U : Type 0} {h : Heap} {seen : List Entry} {p : Part U} {moves : ℕ �
   me = p.number
 
   -- each step that builds has a state after it
-  pub build_turned : (names : Name → Type 0) (make : Entry → Type 0) (clean : Type 0) (b : Build) (w : ℕ)
+  pub build_turned : (names : Name → Type 0) (make : Entry → Type 0) (clean : Type 0) (b : Build)
+      (w : ℕ)
       → w ≡ slice_index h.words (build_word p b) → MayBuild names make clean (IsLaterThan its h) p b
       → AreLow ready by_scan o b w
       → Turned ready by_scan o b w
   build_turned names make clean (StoreOwn i word) w is may low = ⊎_elim
-      (λ (t : is_naming i ≡ true). let r = naming_field i t in (store_field ready by_scan o) i word w r.0 may
+      (λ (t : is_naming i ≡ true). let r = naming_field i t in (store_field ready by_scan o) i word
+      w r.0 may
       r.1 low)
       (λ (t : is_naming i ≡ false). store_plain ready by_scan o i word w may t)
       (cases_Bool (is_naming i))
   build_turned names make clean (Publish k) w is may low = publish ready by_scan o names make clean
       (IsLaterThan its h) k w may low
   build_turned names make clean (LinkStore at k None) zero is may low =
-      (hang ready by_scan o) names make clean (IsLaterThan its h) at k None true may is (λ e. may.turns) low
+      (hang ready by_scan o) names make clean (IsLaterThan its h) at k None true may is
+      (λ e. may.turns) low
   build_turned names make clean (LinkStore at k (Some e)) zero is may low =
       (hang ready by_scan o) names make clean (IsLaterThan its h) at k (Some e) false may is
       (λ z. absurd (cc)) low
-  build_turned names make clean (LinkStore at k entry) (suc n) is may low = miss ready by_scan o at k entry n
+  build_turned names make clean (LinkStore at k entry) (suc n) is may low = miss ready by_scan o at
+      k entry n
       may.look is low
   build_turned names make clean (Shorten at i target) w is may low =
       let r = naming_field i may.word in
@@ -62,7 +66,8 @@ module _ {U : Type 0} (lawful : U → PlainStore → Type 0) (allowed : U → Pl
     (c : Core U)
     (id place : ℕ) (v : View U) (p : Part U) (b : Build) (by_scan : Bool) (o : Option Known)
     (good : Good lawful allowed p.site c) (at : Carries c.views id place v p)
-    (may : IsLawfulMove lawful allowed c.heap p (record { act = Builds b; scan = by_scan; let_go = o })) where
+    (may : IsLawfulMove lawful allowed c.heap p
+    (record { act = Builds b; scan = by_scan; let_go = o })) where
   abbrev moved : Move
   moved = record { act = Builds b; scan = by_scan; let_go = o }
 
@@ -111,7 +116,8 @@ module _ {U : Type 0} (lawful : U → PlainStore → Type 0) (allowed : U → Pl
     abbrev shown_now : State
     shown_now = turned.after built.now p.number new_part.cycle.scan.bare gone_step
 
-    shown_other : (j k : ℕ) (u : View U) (q : Part U) → Carries c.views j k u q → q.number ≢ p.number
+    shown_other : (j k : ℕ) (u : View U) (q : Part U) → Carries c.views j k u q → q.number
+        ≢ p.number
         → ShowsPart p.site.shape good.collects.moves shown_now q
     shown_other j k u q was ne =
         shown_else p.site.shape good.collects.moves shown_before shown_now q
@@ -127,12 +133,14 @@ module _ {U : Type 0} (lawful : U → PlainStore → Type 0) (allowed : U → Pl
       moves = good.collects.moves;
       rule = good_gone new_part new_heap good.collects.moves built.now p.hands.held found_by
           (built_version b word) o
-          (written_with p.draft.written (Builds b) (built_version b word)) p.cycle.scan.bare built.acted
+          (written_with p.draft.written (Builds b) (built_version b word)) p.cycle.scan.bare
+          built.acted
           kept.placed
           seen own;
       heap = heap_gone new_part new_heap good.collects.moves built.now p.hands.held found_by
           (built_version b word) o
-          (written_with p.draft.written (Builds b) (built_version b word)) p.cycle.scan.bare built.acted
+          (written_with p.draft.written (Builds b) (built_version b word)) p.cycle.scan.bare
+          built.acted
           kept.placed
           seen own;
       parts = by_part c.views id place v p new_part
@@ -140,11 +148,13 @@ module _ {U : Type 0} (lawful : U → PlainStore → Type 0) (allowed : U → Pl
           (λ l q. ShowsPart p.site.shape good.collects.moves shown_now q)
           (part_gone new_part new_heap good.collects.moves built.now p.hands.held found_by
           (built_version b word) o
-          (written_with p.draft.written (Builds b) (built_version b word)) p.cycle.scan.bare built.acted
+          (written_with p.draft.written (Builds b) (built_version b word)) p.cycle.scan.bare
+          built.acted
           kept.placed
           seen own)
           (λ k q ne there.
           let was : Carries c.views id k v q = record { seat = at.seat; place = there } in
           shown_other id k v q was (λ e. ne (good.apart id k id place v v q p was at e).1))
-          (λ j k u q ne was. shown_other j k u q was (λ e. ne (good.apart j k id place u v q p was at e).0));
+          (λ j k u q ne was. shown_other j k u q was
+          (λ e. ne (good.apart j k id place u v q p was at e).0));
     }

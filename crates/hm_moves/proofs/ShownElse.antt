@@ -10,7 +10,8 @@ use Rattle.hm_rounds.specs.Parts as rounds
 
 module _ {U : Type 0} (s : Shape) (moves now : ℕ → ℕ) (x y : State) (p : Part U)
     (e : rounds.part_of y p.number ≡ rounds.part_of x p.number)
-    (roles : (g : ℕ) → g < s.regions → y.roles (row_of s p.number g) ≡ x.roles (row_of s p.number g))
+    (roles : (g : ℕ) → g < s.regions → y.roles (row_of s p.number g)
+    ≡ x.roles (row_of s p.number g))
     (same : now p.number ≡ moves p.number) (h : ShowsPart s moves x p) where
   roles_of_part : (g : ℕ) → g < p.site.shape.regions
       → y.roles (row_of p.site.shape p.number g) ≡ x.roles (row_of p.site.shape p.number g)
@@ -22,13 +23,15 @@ module _ {U : Type 0} (s : Shape) (moves now : ℕ → ℕ) (x y : State) (p : P
   shown_else_moved = record {
     shape = h.shape;
     clock = record {
-      seen = subst (λ (z : rounds.Part). IsStage p.cycle.clock.stage z.seen z.seen_done z.seen_phase) (sym e)
+      seen = subst (λ (z : rounds.Part). IsStage p.cycle.clock.stage z.seen z.seen_done
+          z.seen_phase) (sym e)
           h.clock.seen;
       reply = subst (λ (z : rounds.Part). IsReplyOf p.cycle.clock.reply z.replied z.reply) (sym e)
           h.clock.reply;
       wide = h.clock.wide;
       replies = subst (λ (z : rounds.Part). (q : ℕ) → q < p.site.shape.callers
-          → IsKnownReply (slice_index_or p.cycle.clock.replies q None) (z.known q) (z.known_reply q)) (sym e)
+          → IsKnownReply (slice_index_or p.cycle.clock.replies q None) (z.known q)
+          (z.known_reply q)) (sym e)
           h.clock.replies;
       moved = h.clock.moved ∙ sym same;
     };
@@ -48,7 +51,8 @@ module _ {U : Type 0} (s : Shape) (moves now : ℕ → ℕ) (x y : State) (p : P
       passed = λ i f k a b c. ap (λ (z : rounds.Part). z.passed (version_shown k.version) f) e
           ∙ h.scan.passed i f k a b c;
       short = h.scan.short;
-      ends = λ n there. ap (λ (z : rounds.Part). z.ends (name_shown n.name) n.rank) e ∙ h.scan.ends n there;
+      ends = λ n there. ap (λ (z : rounds.Part). z.ends (name_shown n.name) n.rank) e
+          ∙ h.scan.ends n there;
       bare = λ is. ap (λ (z : rounds.Part). z.bare) e ∙ h.scan.bare is;
       holds = h.scan.holds;
     };

@@ -17,19 +17,24 @@ use Rattle.hm_moves.proofs.Fields.{field_low, field_once, IsField, same_or_not, 
 -- words of the stage, of replies and of roles come before all versions
 pub head_else : (s : Shape) (words : List ℕ) (v : Version) (j y i : ℕ) → i ≤ 2 * s.callers
     → slice_index (slice_set words (word_at s v j) y) i ≡ slice_index words i
-head_else s words v j y i low = get_or-set_other words (word_at s v j) i y 0 (λ e. omega (arith, e, low))
+head_else s words v j y i low = get_or-set_other words (word_at s v j) i y 0
+    (λ e. omega (arith, e, low))
 
 -- what is put elsewhere leaves a number
-pub put_else : {A : Type 0} (facts : ℕ → A) (n : ℕ) (fact : A) (i : ℕ) → i ≢ n → put facts n fact i ≡ facts i
+pub put_else : {A : Type 0} (facts : ℕ → A) (n : ℕ) (fact : A) (i : ℕ) → i ≢ n → put facts n fact i
+    ≡ facts i
 put_else facts n fact i ne = rw (ne_eqb i n ne) refl
 
-module _ (s : Shape) (h : Heap) (moves : ℕ → ℕ) (x : State) (shows : ShowsHeap s h moves x) (words : List ℕ)
-    (history : List Entry) (head : (i : ℕ) → i ≤ 2 * s.callers → slice_index words i ≡ slice_index h.words i)
+module _ (s : Shape) (h : Heap) (moves : ℕ → ℕ) (x : State) (shows : ShowsHeap s h moves x)
+    (words : List ℕ)
+    (history : List Entry) (head : (i : ℕ) → i ≤ 2 * s.callers → slice_index words i
+    ≡ slice_index h.words i)
     (word : ℕ → ℕ → ℕ)
     (says : (v : Version) (f : ℕ) → v.0 < version_count s → f < field_count
     → word (version_shown v) f ≡ slice_index words (word_at s v (field_word f)))
     (scan : state.Scan) (hands : state.Hands) (bare : ℕ → Bool) where
-  stage_still : IsStage (stage_in (slice_index words stage_at)) x.clock.number x.clock.done x.clock.phase
+  stage_still : IsStage (stage_in (slice_index words stage_at)) x.clock.number x.clock.done
+      x.clock.phase
   stage_still = subst (λ (w : ℕ). IsStage (stage_in w) x.clock.number x.clock.done x.clock.phase)
       (sym (head 0 (omega arith))) shows.stage
 
@@ -41,8 +46,10 @@ module _ (s : Shape) (h : Heap) (moves : ℕ → ℕ) (x : State) (shows : Shows
   replies_still q low = subst (λ (w : ℕ). IsReplyWordOf w (x.clock.replied q) (x.clock.reply q))
       (sym (head (reply_at q) (omega (arith, low)))) (shows.replies q low)
 
-  roles_still : (q : ℕ) → q < s.callers → AreRolesOf s h.places.role q (slice_index words (roles_at s q))
-  roles_still q low = subst (AreRolesOf s h.places.role q) (sym (head (roles_at s q) (omega (arith, low))))
+  roles_still : (q : ℕ) → q < s.callers → AreRolesOf s h.places.role q
+      (slice_index words (roles_at s q))
+  roles_still q low = subst (AreRolesOf s h.places.role q)
+      (sym (head (roles_at s q) (omega (arith, low))))
       (shows.roles q low)
 
   -- words of versions are stored, and no version is published
@@ -75,16 +82,19 @@ module _ (s : Shape) (h : Heap) (moves : ℕ → ℕ) (x : State) (shows : Shows
 
   -- a version is published, at the next place of a row
   module _ (q row : ℕ) (k : Known) (store : state.Store) (o r : ℕ) (row_low : row < row_count s)
-      (room : h.places.used row < s.versions) (at : k.version.0 ≡ row * s.versions + h.places.used row)
+      (room : h.places.used row < s.versions)
+      (at : k.version.0 ≡ row * s.versions + h.places.used row)
       (none : h.index k.version.0 ≡ None) (next : x.hands.next q ≡ version_shown k.version)
       (object : o ≡ name_shown k.name) (rank : r ≡ k.rank)
-      (stored : (i : ℕ) → store.has i ≡ true → (n : Name) × IsThere (store_of history) n × (i ≡ name_shown n))
+      (stored : (i : ℕ) → store.has i ≡ true → (n : Name) × IsThere (store_of history) n
+      × (i ≡ name_shown n))
     where
       next_is : x.hands.next q ≡ suc (row * s.versions + h.places.used row)
       next_is = next ∙ ap suc at
 
       in_row : x.shape.region (x.hands.next q) ≡ row
-      in_row = ap x.shape.region next ∙ region_is s h moves x shows k.version.0 row (h.places.used row) room
+      in_row = ap x.shape.region next ∙ region_is s h moves x shows k.version.0 row
+          (h.places.used row) room
           at
 
       small : k.version.0 < version_count s
@@ -99,7 +109,8 @@ module _ (s : Shape) (h : Heap) (moves : ℕ → ℕ) (x : State) (shows : Shows
           (sym in_row) (⊎_elim
           (λ (e : i ≡ row).
           let here : x.uses.filled row ≡ h.places.used row = shows.filled row row_low in
-          subst (λ (n : ℕ). put x.uses.filled row (x.uses.filled row + 1) n ≡ raised h.places.used row n)
+          subst (λ (n : ℕ). put x.uses.filled row (x.uses.filled row + 1) n ≡ raised h.places.used
+          row n)
           (sym e)
           (put_same x.uses.filled row (x.uses.filled row + 1)
           ∙ (ap (λ (n : ℕ). n + 1) here ∙ sym (raised_here h.places.used row))))
@@ -111,7 +122,8 @@ module _ (s : Shape) (h : Heap) (moves : ℕ → ℕ) (x : State) (shows : Shows
           → put x.uses.used (x.hands.next q) true (suc (r * s.versions + i))
           ≡ nat_lt i (raised h.places.used row r)
       used_now r i low few = ⊎_elim
-          (λ (e : r ≡ row). subst (λ (n : ℕ). put x.uses.used (x.hands.next q) true (suc (n * s.versions + i))
+          (λ (e : r ≡ row). subst
+          (λ (n : ℕ). put x.uses.used (x.hands.next q) true (suc (n * s.versions + i))
           ≡ nat_lt i (raised h.places.used row n)) (sym e) (here i few))
           (λ (ne : r ≢ row).
           let other : suc (r * s.versions + i) ≢ x.hands.next q = λ e.
@@ -121,7 +133,8 @@ module _ (s : Shape) (h : Heap) (moves : ℕ → ℕ) (x : State) (shows : Shows
           ∙ (shows.used r i low few ∙ ap (nat_lt i) (sym (raised_else h.places.used row r ne))))
           (same_or_not r row)
         where
-          here : (i : ℕ) → i < s.versions → put x.uses.used (x.hands.next q) true (suc (row * s.versions + i))
+          here : (i : ℕ) → i < s.versions → put x.uses.used (x.hands.next q) true
+              (suc (row * s.versions + i))
               ≡ nat_lt i (raised h.places.used row row)
           here i few = ⊎_elim
               (λ (e : i ≡ h.places.used row).
@@ -140,7 +153,8 @@ module _ (s : Shape) (h : Heap) (moves : ℕ → ℕ) (x : State) (shows : Shows
               ∙ (let up = raised_here h.places.used row in grind (arith, nat_tests, up, ne))))
               (same_or_not i (h.places.used row))
 
-      beyond_now : (v : ℕ) → version_count s ≤ v → put x.uses.used (x.hands.next q) true (suc v) ≡ false
+      beyond_now : (v : ℕ) → version_count s ≤ v → put x.uses.used (x.hands.next q) true (suc v)
+          ≡ false
       beyond_now v high =
           put_else x.uses.used (x.hands.next q) true (suc v)
           (λ e. let all = e ∙ next in let less = small in omega (arith, all, less, high))
@@ -152,7 +166,8 @@ module _ (s : Shape) (h : Heap) (moves : ℕ → ℕ) (x : State) (shows : Shows
           → put facts (x.hands.next q) fact (version_shown m.version) ≡ is m
       of_published facts fact is here there m published = ⊎_elim
           (λ (e : k ≡ m).
-          ap (put facts (x.hands.next q) fact) (sym (next ∙ ap (λ (z : Known). version_shown z.version) e))
+          ap (put facts (x.hands.next q) fact)
+          (sym (next ∙ ap (λ (z : Known). version_shown z.version) e))
           ∙ (put_same facts (x.hands.next q) fact ∙ (here ∙ ap is e)))
           (λ (t : (m.version.0 ≢ k.version.0) × IsPublished h.index m).
           put_else facts (x.hands.next q) fact (version_shown m.version)
@@ -191,7 +206,8 @@ module _ (s : Shape) (h : Heap) (moves : ℕ → ℕ) (x : State) (shows : Shows
         freed = shows.freed;
         used = used_now;
         beyond = beyond_now;
-        none = put_else x.uses.used (x.hands.next q) true 0 (λ e. let all = e ∙ next in omega (arith, all))
+        none = put_else x.uses.used (x.hands.next q) true 0
+            (λ e. let all = e ∙ next in omega (arith, all))
             ∙ shows.none;
         words = says;
         object = of_published x.versions.object o (λ m. name_shown m.name) object shows.object;
@@ -201,7 +217,8 @@ module _ (s : Shape) (h : Heap) (moves : ℕ → ℕ) (x : State) (shows : Shows
 
 -- a stored field is the word that is found there
 pub says_stored : (s : Shape) (h : Heap) (moves : ℕ → ℕ) (x : State) → ShowsHeap s h moves x
-    → length h.words ≡ word_count s → (w : Version) (i f n y : ℕ) → w.0 < version_count s → IsField i f
+    → length h.words ≡ word_count s → (w : Version) (i f n y : ℕ) → w.0 < version_count s
+    → IsField i f
     → n ≡ version_shown w → (v : Version) (e : ℕ) → v.0 < version_count s → e < field_count
     → put_word x.versions.word n f y (version_shown v) e
     ≡ slice_index (slice_set h.words (word_at s w i) y) (word_at s v (field_word e))
@@ -236,7 +253,8 @@ says_stored s h moves x shows wide w i f n y small field is v e low few =
     word_same : (words : ℕ → ℕ → ℕ) (n f y a b : ℕ) → a ≡ n → b ≡ f → put_word words n f y a b ≡ y
     word_same words n f y a b k l = rw (eq-eqb a n k) (rw (eq-eqb b f l) refl)
 
-    word_else : (words : ℕ → ℕ → ℕ) (n f y a b : ℕ) → (a ≢ n) ⊎ (b ≢ f) → put_word words n f y a b ≡ words a b
+    word_else : (words : ℕ → ℕ → ℕ) (n f y a b : ℕ) → (a ≢ n) ⊎ (b ≢ f) → put_word words n f y a b
+        ≡ words a b
     word_else words n f y a b (inl k) = rw (ne_eqb a n k) refl
     word_else words n f y a b (inr l) = rw (ne_eqb b f l) (by_and (a == n) (words a b))
       where

@@ -16,7 +16,7 @@ use Rattle.hm_moves.specs.Acts.{entry_of, finds, listed, look_finds, looked_at, 
 use Rattle.hm_moves.specs.After.{heap_after, part_after, seen_after}
 use Rattle.hm_moves.specs.Allowed.{IsLawfulMove, IsWordOf, MayLookInto}
 use Rattle.hm_moves.specs.Chain.{lookup}
-use Rattle.hm_moves.specs.Cycles.{cursor_after, found_end}
+use Rattle.hm_moves.specs.Cycles.{cursor_after, found_end, met_after}
 use Rattle.hm_moves.specs.Good.{AreIndexed, Carries, Collects, Core, Good, IsDrafting, PartIsGood, applied}
 use Rattle.hm_moves.specs.Places.{Heap, ArePlaced}
 use Rattle.hm_moves.specs.Showing.{ShowsHeap, ShowsPart}
@@ -24,10 +24,12 @@ use Rattle.hm_moves.proofs.ShownLetting.{let_number, let_stamp}
 use Rattle.hm_moves.proofs.Taking.{Stepped, collects_now}
 use Rattle.hm_rounds.specs.State.{State}
 use Rattle.hm_rounds.specs.Rule as rules
-use Rattle.hm_moves.proofs.Looking.{heap_entered, link_ended, moved_by, told_step}
+use Rattle.hm_moves.proofs.Looking.{heap_entered, link_ended, moved_by}
+use Rattle.hm_moves.proofs.Loading.{told_step}
 
 module _ {U : Type 0} (h : Heap) (moves : ℕ → ℕ) (x : State) (p : Part U)
-    (shows : ShowsHeap p.site.shape h moves x) (rule : rules.Good x) (mine : ShowsPart p.site.shape moves x p)
+    (shows : ShowsHeap p.site.shape h moves x) (rule : rules.Good x)
+    (mine : ShowsPart p.site.shape moves x p)
     (placed : ArePlaced p.site.shape h.index h.places.dead h.places.used)
     (hands : AreIndexed p.site.shape p.number h.index h.places p.hands)
     (low : p.number < p.site.shape.callers)
@@ -46,7 +48,8 @@ module _ {U : Type 0} (h : Heap) (moves : ℕ → ℕ) (x : State) (p : Part U)
       (part_after p (record { act = Looks l; scan = b; let_go = o }) (there l)
       (look_finds h.index l (there l)))
   look_step (LoadStamp at) look is =
-      let_stamp s_own h moves x p shows rule mine placed low hands kept drafting at b o (there (LoadStamp at))
+      let_stamp s_own h moves x p shows rule mine placed low hands kept drafting at b o
+      (there (LoadStamp at))
   look_step (LoadNumber at i) look is =
       let_number s_own h moves x p shows rule mine placed low hands kept drafting at i b o
       (there (LoadNumber at i))
@@ -57,10 +60,12 @@ module _ {U : Type 0} (h : Heap) (moves : ℕ → ℕ) (x : State) (p : Part U)
       let number : i + 2 ≡ 2 + i = omega arith in
       let small = placed.fits at (⊎_elim (λ (t : Contains p.hands.held at). hands.held at t)
       (λ (t : Contains p.hands.own at). (hands.own at t).published) look) in
-      told_step s_own h moves x p shows rule mine placed hands low at (suc i) b look (omega (arith, is)) w
+      told_step s_own h moves x p shows rule mine placed hands low at (suc i) b look
+      (omega (arith, is)) w
       (shows.words at.version (suc i) small (omega (arith, is))
       ∙ ap (λ (j : ℕ). slice_index h.words (word_at s_own at.version j)) number)
-      (cursor_after p m (lookup h.index w)) [] (p.calls.mine ++ listed (entry_of p.number (Looks l) w))
+      (cursor_after p m (lookup h.index w)) [] (met_after p m (lookup h.index w))
+      (p.calls.mine ++ listed (entry_of p.number (Looks l) w))
       (moved_by p l b o (lookup h.index w) (suc i) (sym number))
       (λ e c. let none = c.1 in absurd (omega arith)) kept drafting o
   look_step (LoadLink at want) look is =
@@ -72,13 +77,14 @@ module _ {U : Type 0} (h : Heap) (moves : ℕ → ℕ) (x : State) (p : Part U)
       told_step s_own h moves x p shows rule mine placed hands low at 0 b look (omega arith) w
       (shows.words at.version 0 small (omega arith))
       (cursor_after p m (lookup h.index w)) (found_end (Looks l) w)
-      (p.calls.mine ++ listed (entry_of p.number (Looks l) w))
+      (met_after p m (lookup h.index w)) (p.calls.mine ++ listed (entry_of p.number (Looks l) w))
       (moved_by p l b o (lookup h.index w) 0 refl) (link_ended 0 refl at want w) kept drafting o
 
 module _ {U : Type 0} (lawful : U → PlainStore → Type 0) (allowed : U → PlainStore → Entry → Type 0)
     (c : Core U) (id place : ℕ) (v : View U) (p : Part U) (l : Look) (b : Bool) (o : Option Known)
     (good : Good lawful allowed p.site c) (at : Carries c.views id place v p)
-    (may : IsLawfulMove lawful allowed c.heap p (record { act = Looks l; scan = b; let_go = o })) where
+    (may : IsLawfulMove lawful allowed c.heap p
+    (record { act = Looks l; scan = b; let_go = o })) where
   abbrev m : Move
   m = record { act = Looks l; scan = b; let_go = o }
 
@@ -99,7 +105,8 @@ module _ {U : Type 0} (lawful : U → PlainStore → Type 0) (allowed : U → Pl
       good.heap.placed
       mine.hands mine.number p.hands.held mine.draft b o l may.act.look may.act.word
 
-  steps_now : Stepped p.site.shape (heap_after c.heap p (Looks l) w) old.moves old.moves old.state new
+  steps_now : Stepped p.site.shape (heap_after c.heap p (Looks l) w) old.moves old.moves old.state
+      new
   steps_now = record {
     state = steps.state;
     rule = steps.rule;

@@ -23,8 +23,10 @@ use Rattle.hm_rounds.specs.Runs.{MayTake}
 use Rattle.hm_rounds.specs.Rule as rounds
 use Rattle.hm_rounds.proofs.Steps.{good_step}
 use Rattle.hm_rounds.proofs.Parting.{part_else}
-use Rattle.hm_moves.proofs.ShiftHeaps.{frees_there, heap_joined, heap_reused, heap_turned, role_joined_else, role_reused_else, role_turned_else}
-use Rattle.hm_moves.proofs.ShiftParts.{below_there, clock_shifted, hands_joined, hands_loaded, hands_reused, hands_turned, heap_loaded, heap_roles, join_may, join_present, scan_joined, scan_reused, scan_roles, scan_turned, takes_unsaid, ties_joined, ties_loaded, ties_reused, ties_turned, turn_may}
+use Rattle.hm_moves.proofs.StoredRoles.{frees_there}
+use Rattle.hm_moves.proofs.ShiftHeaps.{heap_joined, heap_reused, heap_turned, role_joined_else, role_reused_else, role_turned_else}
+use Rattle.hm_moves.proofs.ShiftParts.{below_there, clock_shifted, hands_joined, hands_loaded, hands_reused, hands_turned, heap_loaded, heap_roles, join_may, join_present, takes_unsaid, ties_joined, ties_loaded, ties_reused, ties_turned, turn_may}
+use Rattle.hm_moves.proofs.ShiftScans.{scan_joined, scan_reused, scan_roles, scan_turned}
 
 module _ {U : Type 0} (lawful : U → PlainStore → Type 0) (allowed : U → PlainStore → Entry → Type 0)
     (c : Core U) (id place : ℕ) (v : View U) (p : Part U) (good : Good lawful allowed p.site c)
@@ -48,30 +50,35 @@ module _ {U : Type 0} (lawful : U → PlainStore → Type 0) (allowed : U → Pl
   abbrev pub shift_made : Shift → Core U
   shift_made f = replaced lawful allowed c id place v p
       (readied p (Shifts f) (slice_index c.heap.words (shift_word p.site.shape p.number f))) seen
-      (heap_after c.heap p (Shifts f) (slice_index c.heap.words (shift_word p.site.shape p.number f))) good
+      (heap_after c.heap p (Shifts f)
+      (slice_index c.heap.words (shift_word p.site.shape p.number f))) good
       at refl
 
   -- a step on roles leaves a machine that shows what the step leaves
   shift_of : (f : Shift) (b : Bool) (step : steps.Shift) → MayTake x p.number b (steps.Shifts step)
       → ShowsHeap p.site.shape
-      (heap_after c.heap p (Shifts f) (slice_index c.heap.words (shift_word p.site.shape p.number f)))
+      (heap_after c.heap p (Shifts f)
+      (slice_index c.heap.words (shift_word p.site.shape p.number f)))
       good.collects.moves (after x p.number b (steps.Shifts step))
       → ShowsPart p.site.shape good.collects.moves (after x p.number b (steps.Shifts step))
       (readied p (Shifts f) (slice_index c.heap.words (shift_word p.site.shape p.number f)))
       → ((r g : ℕ) → r ≢ p.number → r < p.site.shape.callers → g < p.site.shape.regions
-      → regions.shifted x p.number step (row_of p.site.shape r g) ≡ x.roles (row_of p.site.shape r g))
+      → regions.shifted x p.number step (row_of p.site.shape r g)
+      ≡ x.roles (row_of p.site.shape r g))
       → Collects p.site (shift_made f)
   shift_of f b step go shown own roles =
       collected lawful allowed c id place v p
       (readied p (Shifts f) (slice_index c.heap.words (shift_word p.site.shape p.number f))) seen
-      (heap_after c.heap p (Shifts f) (slice_index c.heap.words (shift_word p.site.shape p.number f))) good
+      (heap_after c.heap p (Shifts f)
+      (slice_index c.heap.words (shift_word p.site.shape p.number f))) good
       at refl
       (after x p.number b (steps.Shifts step)) good.collects.moves
       (good_step x p.number b (steps.Shifts step) go rule)
       shown own (λ r ne. part_else x p.number b (steps.Shifts step) r ne) roles (λ r ne. refl)
 
   -- a load of roles
-  collects_loaded : (of : ℕ) → of < p.site.shape.callers → Collects p.site (shift_made (LoadRoles of))
+  collects_loaded : (of : ℕ) → of < p.site.shape.callers → Collects p.site
+      (shift_made (LoadRoles of))
   collects_loaded of little =
       let w : ℕ = slice_index c.heap.words (roles_at p.site.shape of) in
       shift_of (LoadRoles of) false (steps.LoadRoles of)
@@ -82,10 +89,12 @@ module _ {U : Type 0} (lawful : U → PlainStore → Type 0) (allowed : U → Pl
       (heap_roles c.heap good.collects.moves x p heap mine low of))
       record {
         shape = refl;
-        clock = clock_shifted c.heap good.collects.moves x p heap mine low false (steps.LoadRoles of)
+        clock = clock_shifted c.heap good.collects.moves x p heap mine low false
+            (steps.LoadRoles of)
             (LoadRoles of) w;
         ties = ties_loaded c.heap good.collects.moves x p heap mine low of w;
-        scan = scan_roles c.heap good.collects.moves x p heap mine low of w little (heap.roles of little);
+        scan = scan_roles c.heap good.collects.moves x p heap mine low of w little
+            (heap.roles of little);
         hands = hands_loaded c.heap good.collects.moves x p heap mine low of w;
       }
       (λ r g ne below narrow. refl)
@@ -100,19 +109,23 @@ module _ {U : Type 0} (lawful : U → PlainStore → Type 0) (allowed : U → Pl
       shift_of (Join region roles) false (steps.TakeJoin row next)
       (takes_unsaid c.heap good.collects.moves x p heap mine low (steps.TakeJoin row next)
       (join_may c.heap good.collects.moves x p heap mine low region roles go))
-      (heap_joined c.heap good.collects.moves x p heap mine low region next go.takes.below roles go.is
+      (heap_joined c.heap good.collects.moves x p heap mine low region next go.takes.below roles
+      go.is
       good.heap.wide
       (join_present c.heap good.collects.moves x p heap mine low region roles go rule))
       record {
         shape = refl;
-        clock = clock_shifted c.heap good.collects.moves x p heap mine low false (steps.TakeJoin row next)
+        clock = clock_shifted c.heap good.collects.moves x p heap mine low false
+            (steps.TakeJoin row next)
             (Join region roles) w;
-        ties = ties_joined c.heap good.collects.moves x p heap mine low region next w go.takes.below roles
+        ties = ties_joined c.heap good.collects.moves x p heap mine low region next w go.takes.below
+            roles
             go.is;
         scan = scan_joined c.heap good.collects.moves x p heap mine low region row next w roles;
         hands = hands_joined c.heap good.collects.moves x p heap mine low region row w roles;
       }
-      (λ r g ne below narrow. role_joined_else c.heap good.collects.moves x p heap mine low region next
+      (λ r g ne below narrow. role_joined_else c.heap good.collects.moves x p heap mine low region
+      next
       go.takes.below
       roles go.is r g below narrow ne)
 
@@ -132,23 +145,27 @@ module _ {U : Type 0} (lawful : U → PlainStore → Type 0) (allowed : U → Pl
         truly = λ is. inr record {
           was = mine.scan.bare is;
           stays = refl;
-          held = held_clean p.site.shape c.heap good.collects.moves x heap rule good.heap.placed p mine
+          held = held_clean p.site.shape c.heap good.collects.moves x heap rule good.heap.placed p
+              mine
               (good.parts id place v p at).hands low (mine.scan.holds is);
         };
       }
-      (heap_turned c.heap good.collects.moves x p heap mine low region next go.takes.below roles go.is free
+      (heap_turned c.heap good.collects.moves x p heap mine low region next go.takes.below roles
+      go.is free
       good.heap.wide p.cycle.scan.bare)
       record {
         shape = refl;
         clock = clock_shifted c.heap good.collects.moves x p heap mine low p.cycle.scan.bare
             (steps.Turn row next)
             (Turn region roles) w;
-        ties = ties_turned c.heap good.collects.moves x p heap mine low region next w go.takes.below roles
+        ties = ties_turned c.heap good.collects.moves x p heap mine low region next w go.takes.below
+            roles
             go.is free;
         scan = scan_turned c.heap good.collects.moves x p heap mine low region row next w roles;
         hands = hands_turned c.heap good.collects.moves x p heap mine low region row w roles;
       }
-      (λ r g ne below narrow. role_turned_else c.heap good.collects.moves x p heap mine low region next
+      (λ r g ne below narrow. role_turned_else c.heap good.collects.moves x p heap mine low region
+      next
       go.takes.below
       roles go.is free r g below narrow ne)
 
@@ -169,7 +186,8 @@ module _ {U : Type 0} (lawful : U → PlainStore → Type 0) (allowed : U → Pl
         scan = scan_reused c.heap good.collects.moves x p heap mine low w roles;
         hands = hands_reused c.heap good.collects.moves x p heap mine low w roles;
       }
-      (λ r g ne below narrow. role_reused_else c.heap good.collects.moves x p heap mine low roles go.is
+      (λ r g ne below narrow. role_reused_else c.heap good.collects.moves x p heap mine low roles
+      go.is
       go.frees r g
       below narrow ne)
 

@@ -35,7 +35,8 @@ use Rattle.hm_moves.proofs.TickFacts.{done_less, done_shown, heap_still, open_sh
 use Rattle.hm_moves.proofs.TickHeaps.{heap_heard, heap_moved, heap_replied, heap_seen, stage_met}
 use Rattle.hm_moves.proofs.TickParts.{clock_heard, clock_missed, clock_moved, clock_replied, clock_seen, go_shown, hands_ticked, scan_heard, scan_missed, scan_moved, scan_replied, scan_seen, ties_ticked}
 
-module _ {U : Type 0} (known : Name → Type 0) (make : Entry → Type 0) (later : Known → ℕ → Known → Type 0)
+module _ {U : Type 0} (known : Name → Type 0) (make : Entry → Type 0)
+    (later : Known → ℕ → Known → Type 0)
     (h : Heap) (moves : ℕ → ℕ) (x : State) (p : Part U) (shows : ShowsHeap p.site.shape h moves x)
     (rule : rounds.Good x) (placed : ArePlaced p.site.shape h.index h.places.dead h.places.used)
     (mine : ShowsPart p.site.shape moves x p)
@@ -71,7 +72,8 @@ module _ {U : Type 0} (known : Name → Type 0) (make : Entry → Type 0) (later
   stays_bare t is = inr record {
     was = mine.scan.bare is;
     stays = refl;
-    held = held_clean p.site.shape h moves x shows rule placed p mine hands low (mine.scan.holds is);
+    held = held_clean p.site.shape h moves x shows rule placed p mine hands low
+        (mine.scan.holds is);
   }
 
   -- so it may take the step
@@ -126,7 +128,8 @@ module _ {U : Type 0} (lawful : U → PlainStore → Type 0) (allowed : U → Pl
       (readied p (Ticks t) (slice_index c.heap.words (tick_word p.number t))) seen
       (heap_after c.heap p (Ticks t) (slice_index c.heap.words (tick_word p.number t))) good at refl
       (y step) now
-      (steps_on known make later c.heap good.collects.moves x p heap good.collects.rule good.heap.placed
+      (steps_on known make later c.heap good.collects.moves x p heap good.collects.rule
+      good.heap.placed
       mine
       (good.parts id place v p at).hands low step go)
       shown own
@@ -176,10 +179,12 @@ module _ {U : Type 0} (lawful : U → PlainStore → Type 0) (allowed : U → Pl
       let w : ℕ = slice_index c.heap.words (reply_at p.number) in
       let step : steps.Tick = steps.StoreReply (reply_shown reply.kind) in
       made_of (StoreReply reply) step good.collects.moves (
-        open_there known make later c.heap good.collects.moves x p heap good.collects.rule good.heap.placed
+        open_there known make later c.heap good.collects.moves x p heap good.collects.rule
+            good.heap.placed
             mine
             (good.parts id place v p at).hands low go.open_yet,
-        subst (λ f. may.MayReply x p.number f (reply_shown reply.kind)) (sym mine.clock.seen.phase_is)
+        subst (λ f. may.MayReply x p.number f (reply_shown reply.kind))
+            (sym mine.clock.seen.phase_is)
             (reply_may known make later c.heap good.collects.moves x p heap good.collects.rule
             good.heap.placed mine
             (good.parts id place v p at).hands low p.cycle.clock.stage.phase reply.kind go.kind),
@@ -200,11 +205,13 @@ module _ {U : Type 0} (lawful : U → PlainStore → Type 0) (allowed : U → Pl
     w = slice_index c.heap.words stage_at
 
     -- a move of the stage that fails
-    collects_missed : (w == seen_word from) ≡ false → Collects p.site (tick_made (MoveStage from to))
+    collects_missed : (w == seen_word from) ≡ false → Collects p.site
+        (tick_made (MoveStage from to))
     collects_missed miss =
         made_of (MoveStage from to) steps.LoadStage good.collects.moves tt
         (subst (λ z. ShowsHeap p.site.shape z good.collects.moves (y steps.LoadStage))
-        (sym (heap_still c.heap p (MoveStage from to) w refl (ap (λ e. if e then seen_word to else w) miss)
+        (sym (heap_still c.heap p (MoveStage from to) w refl
+        (ap (λ e. if e then seen_word to else w) miss)
         (ap (λ e. e && is_idle to.phase) miss)))
         (heap_seen p.site.shape c.heap good.collects.moves x heap p.number p.cycle.scan.bare))
         record {
@@ -221,7 +228,8 @@ module _ {U : Type 0} (lawful : U → PlainStore → Type 0) (allowed : U → Pl
     collects_moved same =
         let fits : from.done < 2 ^ 30 = let a = done_less from.done to.phase in
         let b = go.done in let d = go.fits in omega arith in
-        let met = stage_met c.heap good.collects.moves x p heap low good.heap.wide p.cycle.scan.bare from
+        let met = stage_met c.heap good.collects.moves x p heap low good.heap.wide p.cycle.scan.bare
+        from
         go.seen fits
         mine.clock.seen same in
         let step : steps.Tick = steps.MoveStage (phase_shown to.phase) in
@@ -230,16 +238,20 @@ module _ {U : Type 0} (lawful : U → PlainStore → Type 0) (allowed : U → Pl
         made_of (MoveStage from to) step (raised good.collects.moves p.number) (
           met.0,
           subst (λ f. may.MayMove x p.number f (phase_shown to.phase))
-              (sym (mine.clock.seen.phase_is ∙ ap (λ (z : Seen). phase_shown z.phase) (sym go.seen)))
-              (go_shown good.collects.moves x p mine (ap (λ z. z.callers) heap.shape) from.phase to.phase
+              (sym (mine.clock.seen.phase_is ∙ ap (λ (z : Seen). phase_shown z.phase)
+              (sym go.seen)))
+              (go_shown good.collects.moves x p mine (ap (λ z. z.callers) heap.shape) from.phase
+              to.phase
               go.goes),
         )
-        (heap_moved c.heap good.collects.moves x p heap low good.heap.wide p.cycle.scan.bare from to go same
+        (heap_moved c.heap good.collects.moves x p heap low good.heap.wide p.cycle.scan.bare from to
+        go same
         number met.1
         met.2 met.3 good.collects.rule)
         record {
           shape = refl;
-          clock = clock_moved good.collects.moves x p mine from to w (eq-eqb w (seen_word from) same)
+          clock = clock_moved good.collects.moves x p mine from to w
+              (eq-eqb w (seen_word from) same)
               go.fits record {
                 number_is = let a = go.number in omega arith;
                 done_is = ap (λ n. moved_done n (phase_shown to.phase)) met.1

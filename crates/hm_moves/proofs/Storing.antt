@@ -29,8 +29,10 @@ next_there : (o : Option Known) (at : Known) → is_next o at ≡ true → (k : 
 next_there None at e = absurd (cc)
 next_there (Some k) at e = (k, refl, sym (same_version k at e))
 
-at_cursor : (own : List Known) (c : ℕ) (at : Known) (i j e : ℕ) (k : Known) → slice_get own j ≡ Some k
-    → e < field_count → j * field_count + e ≡ c → is_next (slice_get own (c / field_count)) at ≡ true
+at_cursor : (own : List Known) (c : ℕ) (at : Known) (i j e : ℕ) (k : Known) → slice_get own j
+    ≡ Some k
+    → e < field_count → j * field_count + e ≡ c → is_next (slice_get own (c / field_count)) at
+    ≡ true
     → (i == field_word (c % field_count)) ≡ true
     → (version_shown k.version ≡ version_shown at.version) × (i ≡ field_word e)
 at_cursor own c at i j e k get few is here word =
@@ -43,7 +45,8 @@ at_cursor own c at i j e k get few is here word =
       eqb-true i (field_word (c % field_count)) word ∙ ap field_word field,
     )
 
-cursor_in : (own : List Known) (c : ℕ) (at : Known) → is_next (slice_get own (c / field_count)) at ≡ true
+cursor_in : (own : List Known) (c : ℕ) (at : Known) → is_next (slice_get own (c / field_count)) at
+    ≡ true
     → c < length own * field_count
 cursor_in own c at here =
     let r = next_there (slice_get own (c / field_count)) at here in
@@ -65,7 +68,8 @@ module _ {U : Type 0} {h : Heap} {seen : List Entry} {p : Part U} {moves : ℕ �
       → Turned ready by_scan o (StoreOwn i word) w
   store_plain i word w may plain = record {
     now = x;
-    acted = acted_of ready by_scan o (StoreOwn i word) w None (heap_after h p (Builds (StoreOwn i word)) w)
+    acted = acted_of ready by_scan o (StoreOwn i word) w None
+        (heap_after h p (Builds (StoreOwn i word)) w)
         x.uses x.versions x.store
         x.scan x.hands x.bare ready.rules
         (heap_rewritten its h moves x ready.shows
@@ -73,11 +77,14 @@ module _ {U : Type 0} {h : Heap} {seen : List Entry} {p : Part U} {moves : ℕ �
         (head_else its h.words (next_version p) i word) x.versions.word
         (λ v f low few. ready.shows.words v f low few ∙ sym
         (elsewhere its h.words v (next_version p) (field_word f) i word
-        (let six = field_low f few in omega (arith, six)) may.below (inr (not_field i plain f few))))
+        (let six = field_low f few in omega (arith, six)) may.below
+        (inr (not_field i plain f few))))
         x.scan x.hands x.bare (no_more ready))
-        (mark_stays ready) (passed_before ready None) (short_before ready None) refl (held_stays ready)
+        (mark_stays ready) (passed_before ready None) (short_before ready None) refl
+        (held_stays ready)
         (next_stays ready)
-        (λ f low room some. stored_else ready i word f low (room_stays ready room) (not_field i plain f low)
+        (λ f low room some. stored_else ready i word f low (room_stays ready room)
+        (not_field i plain f low)
         some)
         (λ was clean. ready.part.scan.bare was);
     others = λ r ne. refl;
@@ -95,19 +102,23 @@ module _ {U : Type 0} {h : Heap} {seen : List Entry} {p : Part U} {moves : ℕ �
       → Turned ready by_scan o (StoreOwn i word) w
   store_field i word w f may field low = record {
     now = turned.after x me b step;
-    acted = acted_of ready by_scan o (StoreOwn i word) w None (heap_after h p (Builds (StoreOwn i word)) w)
+    acted = acted_of ready by_scan o (StoreOwn i word) w None
+        (heap_after h p (Builds (StoreOwn i word)) w)
         x.uses
         (turned.after x me b step).versions x.store x.scan (turned.after x me b step).hands
         (turned.after x me b step).bare
         (good_step x me b step take ready.rules)
         (heap_rewritten its h moves x ready.shows
         (slice_set h.words (word_at its (next_version p) i) word) (h.history ++ [])
-        (head_else its h.words (next_version p) i word) (put_word x.versions.word (x.hands.next me) f word)
-        (says_stored its h moves x ready.shows ready.wide (next_version p) i f (x.hands.next me) word
+        (head_else its h.words (next_version p) i word)
+        (put_word x.versions.word (x.hands.next me) f word)
+        (says_stored its h moves x ready.shows ready.wide (next_version p) i f (x.hands.next me)
+        word
         (next_low ready may.room) field
         (next_here ready may.room))
         x.scan (turned.after x me b step).hands (turned.after x me b step).bare (no_more ready))
-        (mark_stays ready) (passed_before ready None) (short_before ready None) refl (held_stays ready)
+        (mark_stays ready) (passed_before ready None) (short_before ready None) refl
+        (held_stays ready)
         (next_stays ready)
         written_more
         (bare_then_is ready P);
@@ -130,9 +141,11 @@ module _ {U : Type 0} {h : Heap} {seen : List Entry} {p : Part U} {moves : ℕ �
         allowed = record {
           place = has_place ready may.room;
           below = fields_low ready f field.low;
-          held = named_held ready word (may.named (ap is_naming (sym field.is) ∙ field_names f field.low));
+          held = named_held ready word
+              (may.named (ap is_naming (sym field.is) ∙ field_names f field.low));
         };
-        truly = may_be_bare_then ready by_scan o (StoreOwn i word) w None low step refl (held_stays ready)
+        truly = may_be_bare_then ready by_scan o (StoreOwn i word) w None low step refl
+            (held_stays ready)
             refl;
       }
 
@@ -142,16 +155,19 @@ module _ {U : Type 0} {h : Heap} {seen : List Entry} {p : Part U} {moves : ℕ �
       written_more e few room some =
           row_same x.hands.written me (put (x.hands.written me) f true) e
           ∙ ⊎_elim
-          (λ (same : e ≡ f). ap (put (x.hands.written me) f true) same ∙ put_same (x.hands.written me) f true)
+          (λ (same : e ≡ f). ap (put (x.hands.written me) f true) same
+          ∙ put_same (x.hands.written me) f true)
           (λ (ne : e ≢ f). put_else (x.hands.written me) f true e ne
-          ∙ stored_else ready i word e few may.room (λ z. ne (field_once e f (z ∙ sym field.is))) some)
+          ∙ stored_else ready i word e few may.room (λ z. ne (field_once e f (z ∙ sym field.is)))
+          some)
           (same_or_not e f)
 
   -- a word of an own version is shortened
   module _ (at : Known) (i : ℕ) (target : Known) (w f : ℕ) (own : Contains p.hands.own at)
       (field : IsField i f)
       (held : Contains p.hands.held target) (kept : known_from p target.version ≡ false)
-      (comes_later : IsLaterThan its h at i target) (low : AreLow ready by_scan o (Shorten at i target) w)
+      (comes_later : IsLaterThan its h at i target)
+      (low : AreLow ready by_scan o (Shorten at i target) w)
     where
       abbrev P_short : Part U
       P_short = later p by_scan o (Shorten at i target) w None
@@ -160,12 +176,14 @@ module _ {U : Type 0} {h : Heap} {seen : List Entry} {p : Part U} {moves : ℕ �
       b_short = bare_then p P_short
 
       abbrev short_step : steps.Step
-      short_step = steps.Builds (steps.Shorten (version_shown at.version) f (version_shown target.version))
+      short_step =
+          steps.Builds (steps.Shorten (version_shown at.version) f (version_shown target.version))
 
       at_there : IsPublished h.index at
       at_there = (ready.mine.hands.own at own).published
 
-      named_word : x.versions.word (version_shown at.version) f ≡ version_shown comes_later.was.version
+      named_word : x.versions.word (version_shown at.version) f
+          ≡ version_shown comes_later.was.version
       named_word = ready.shows.words at.version f (low_there ready at at_there) field.low
           ∙ (ap (λ (j : ℕ). slice_index h.words (word_at its at.version j)) field.is
           ∙ (comes_later.named ∙ omega arith))
@@ -190,11 +208,13 @@ module _ {U : Type 0} {h : Heap} {seen : List Entry} {p : Part U} {moves : ℕ �
           (passed_before ready None j e k get few before))
           (λ (here : j * field_count + e ≡ p.cycle.scan.cursor).
           let both = and_parts (has_masks p) (is_at_cursor p at i) (sym is) in
-          let at_it = and_parts (is_next (slice_get p.hands.own (p.cycle.scan.cursor / field_count)) at)
+          let at_it = and_parts (is_next (slice_get p.hands.own (p.cycle.scan.cursor / field_count))
+          at)
           (i == field_word (p.cycle.scan.cursor % field_count)) both.1 in
           let found : slice_get p.hands.own j ≡ Some k =
           ap (λ (l : List Known). slice_get l j) (sym (append-nil p.hands.own)) ∙ get in
-          let r = at_cursor p.hands.own p.cycle.scan.cursor at i j e k found few here at_it.0 at_it.1 in
+          let r = at_cursor p.hands.own p.cycle.scan.cursor at i j e k found few here at_it.0
+          at_it.1 in
           let same : e ≡ f = field_once e f (sym r.1 ∙ sym field.is) in
           or_later (x.scan.passed me (version_shown k.version) e)
           ((version_shown k.version == version_shown at.version) && (e == f))
@@ -209,20 +229,24 @@ module _ {U : Type 0} {h : Heap} {seen : List Entry} {p : Part U} {moves : ℕ �
           before_or_here : (a b : ℕ) → a < b + 1 → (a < b) ⊎ (a ≡ b)
           before_or_here a b less = grind (arith, nat_tests, less)
 
-      passed_now : (j e : ℕ) (k : Known) → slice_get (p.hands.own ++ []) j ≡ Some k → e < field_count
-          → j * field_count + e < (if passes_now then p.cycle.scan.cursor + 1 else p.cycle.scan.cursor)
+      passed_now : (j e : ℕ) (k : Known) → slice_get (p.hands.own ++ []) j ≡ Some k
+          → e < field_count
+          → j * field_count + e <
+          (if passes_now then p.cycle.scan.cursor + 1 else p.cycle.scan.cursor)
           → (turned.after x me b_short short_step).scan.passed me (version_shown k.version) e ≡ true
       passed_now j e k get few less =
           table_same x.scan.passed me (λ other item. x.scan.passed me other item
           || ((other == version_shown at.version) && (item == f))) (version_shown k.version) e
           ∙ passed_in passes_now refl j e k get few less
 
-      short_in : (t : Bool) → t ≡ passes_now → (if t then p.cycle.scan.cursor + 1 else p.cycle.scan.cursor)
+      short_in : (t : Bool) → t ≡ passes_now
+          → (if t then p.cycle.scan.cursor + 1 else p.cycle.scan.cursor)
           ≤ length (p.hands.own ++ []) * field_count
       short_in false is = short_before ready None
       short_in true is =
           let both = and_parts (has_masks p) (is_at_cursor p at i) (sym is) in
-          let at_it = and_parts (is_next (slice_get p.hands.own (p.cycle.scan.cursor / field_count)) at)
+          let at_it = and_parts (is_next (slice_get p.hands.own (p.cycle.scan.cursor / field_count))
+          at)
           (i == field_word (p.cycle.scan.cursor % field_count)) both.1 in
           let less = cursor_in p.hands.own p.cycle.scan.cursor at at_it.0 in
           let long = ap length (append-nil p.hands.own) in omega (arith, less, long)
@@ -238,7 +262,8 @@ module _ {U : Type 0} {h : Heap} {seen : List Entry} {p : Part U} {moves : ℕ �
         acted = acted_of ready by_scan o (Shorten at i target) w None
             (heap_after h p (Builds (Shorten at i target)) w)
             x.uses (turned.after x me b_short short_step).versions x.store
-            (turned.after x me b_short short_step).scan x.hands (turned.after x me b_short short_step).bare
+            (turned.after x me b_short short_step).scan x.hands
+            (turned.after x me b_short short_step).bare
             (good_step x me b_short short_step take ready.rules)
             (heap_rewritten its h moves x ready.shows
             (slice_set h.words (word_at its at.version i) (naming_word (Some target.version)))
@@ -246,11 +271,15 @@ module _ {U : Type 0} {h : Heap} {seen : List Entry} {p : Part U} {moves : ℕ �
             (head_else its h.words at.version i (naming_word (Some target.version)))
             (put_word x.versions.word (version_shown at.version) f (version_shown target.version))
             (λ v e small few.
-            ap (λ (n : ℕ). put_word x.versions.word (version_shown at.version) f n (version_shown v) e)
+            ap (λ (n : ℕ). put_word x.versions.word (version_shown at.version) f n (version_shown v)
+            e)
             target_word
-            ∙ says_stored its h moves x ready.shows ready.wide at.version i f (version_shown at.version)
-            (naming_word (Some target.version)) (low_there ready at at_there) field refl v e small few)
-            (turned.after x me b_short short_step).scan x.hands (turned.after x me b_short short_step).bare
+            ∙ says_stored its h moves x ready.shows ready.wide at.version i f
+            (version_shown at.version)
+            (naming_word (Some target.version)) (low_there ready at at_there) field refl v e small
+            few)
+            (turned.after x me b_short short_step).scan x.hands
+            (turned.after x me b_short short_step).bare
             (no_more ready))
             (mark_stays ready) passed_now short_now refl (held_stays ready) (next_stays ready)
             (λ e few room some. written_stays ready e few (room_stays ready room) some)
@@ -266,7 +295,8 @@ module _ {U : Type 0} {h : Heap} {seen : List Entry} {p : Part U} {moves : ℕ �
           take = record {
             below = me_below ready;
             allowed = record {
-              mine = own_mine its h moves x ready.shows ready.rules ready.placed p ready.part ready.mine.hands
+              mine = own_mine its h moves x ready.shows ready.rules ready.placed p ready.part
+                  ready.mine.hands
                   ready.mine.number at own;
               below = fields_low ready f field.low;
               named = λ e. (let all = sym named_word ∙ e in omega (arith, all));
@@ -283,6 +313,7 @@ module _ {U : Type 0} {h : Heap} {seen : List Entry} {p : Part U} {moves : ℕ �
                   let b = ready.shows.rank target (ready.mine.hands.held target held) in
                   let c = comes_later.rank in omega (arith, a, b, c);
             };
-            truly = may_be_bare_then ready by_scan o (Shorten at i target) w None low short_step refl
+            truly = may_be_bare_then ready by_scan o (Shorten at i target) w None low short_step
+                refl
                 (held_stays ready) refl;
           }

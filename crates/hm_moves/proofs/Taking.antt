@@ -29,15 +29,18 @@ use Rattle.hm_rounds.specs.Rule as rules
 use Rattle.hm_rounds.proofs.Steps.{good_step}
 
 -- a test that no element of a list passes
-pub any_none : {A : Type 0} (f : A → Bool) (l : List A) (a : A) → list_any f l ≡ false → Contains l a → f a
+pub any_none : {A : Type 0} (f : A → Bool) (l : List A) (a : A) → list_any f l ≡ false
+    → Contains l a → f a
     ≡ false
 any_none f [] a e h = let low = h.1 in absurd (omega arith)
-any_none f (x ∷ xs) a e (zero, low, is) = let first : f x ≡ false = grind arith in ap f (sym is) ∙ first
+any_none f (x ∷ xs) a e (zero, low, is) = let first : f x ≡ false = grind arith in ap f (sym is)
+    ∙ first
 any_none f (x ∷ xs) a e (suc k, low, is) =
     let rest : list_any f xs ≡ false = grind arith in any_none f xs a rest (k, (omega arith), is)
 
 -- each of a list is there where all are
-pub all_there_at : {A : Type 0} (l : List (Option A)) (i : ℕ) → list_all is_some l ≡ true → i < length l
+pub all_there_at : {A : Type 0} (l : List (Option A)) (i : ℕ) → list_all is_some l ≡ true
+    → i < length l
     → is_some (slice_index_or l i None) ≡ true
 all_there_at [] i e low = absurd (omega arith)
 all_there_at (x ∷ xs) zero e low = grind arith
@@ -51,7 +54,8 @@ put_here facts q b = rw (eq-eqb q q refl) refl
 abbrev pub unbared : {U : Type 0} → Part U → Part U
 unbared p = record p { cycle = record p.cycle { scan = record p.cycle.scan { bare = false } } }
 
-module _ {U : Type 0} (s : Shape) (h : Heap) (moves : ℕ → ℕ) (z : State) (shows : ShowsHeap s h moves z)
+module _ {U : Type 0} (s : Shape) (h : Heap) (moves : ℕ → ℕ) (z : State)
+    (shows : ShowsHeap s h moves z)
     (rule : rules.Good z) (placed : ArePlaced s h.index h.places.dead h.places.used) (n : Part U)
     (mine : ShowsPart s moves z n) (hands : AreIndexed s n.number h.index h.places n.hands)
     (low : n.number < s.callers) where
@@ -62,13 +66,16 @@ module _ {U : Type 0} (s : Shape) (h : Heap) (moves : ℕ → ℕ) (z : State) (
   pub held_clean : holds_from n ≡ false → (v : ℕ) → z.hands.held n.number v ≡ true
       → views.known_from z.shape z.masks n.number v ≡ false
   held_clean none v held =
-      let r = any_found (λ k. version_shown k.version == v) n.hands.held (sym (mine.hands.held v) ∙ held) in
+      let r = any_found (λ k. version_shown k.version == v) n.hands.held
+      (sym (mine.hands.held v) ∙ held) in
       let k : Known = r.0 in
       let is : version_shown k.version ≡ v = eqb-true (version_shown k.version) v r.2 in
-      let there : z.hands.held n.number (version_shown k.version) ≡ true = ap (z.hands.held n.number) is
+      let there : z.hands.held n.number (version_shown k.version) ≡ true = ap
+      (z.hands.held n.number) is
       ∙ held in
       let b = at_live s h moves z shows rule k.version.0
-      (rule.safe.held n.number (version_shown k.version) (let a = callers_same in omega arith) there) in
+      (rule.safe.held n.number (version_shown k.version) (let a = callers_same in omega arith)
+      there) in
       let small = version_below s b.0 b.1 b.2 b.3 in
       let at = b.4 in
       let known = from_shown s h moves z shows n mine k.version (omega arith) in
@@ -77,7 +84,8 @@ module _ {U : Type 0} (s : Shape) (h : Heap) (moves : ℕ → ℕ) (z : State) (
 
   passed_here : nat_le (field_count * length n.hands.own) n.cycle.scan.cursor ≡ true → (v f : ℕ)
       → views.Mine z n.number v → f < z.shape.fields → z.scan.passed n.number v f ≡ true
-  passed_here all zero f own low_f = let a = shows.none in let b = own.is_used in grind (arith, a, b)
+  passed_here all zero f own low_f = let a = shows.none in let b = own.is_used in
+      grind (arith, a, b)
   passed_here all (suc v) f own low_f =
       let r = mine_own s h moves z shows rule placed n mine hands low v own in
       let k : Known = r.0 in
@@ -95,9 +103,11 @@ module _ {U : Type 0} (s : Shape) (h : Heap) (moves : ℕ → ℕ) (z : State) (
   -- a caller that is cleared is so in the state
   pub cleared_shown : is_cleared n ≡ true → IsCleared z n.number
   cleared_shown is =
-      let first = and_parts (has_masks n && nat_le (field_count * length n.hands.own) n.cycle.scan.cursor)
+      let first = and_parts
+      (has_masks n && nat_le (field_count * length n.hands.own) n.cycle.scan.cursor)
       (not (holds_from n)) is in
-      let second = and_parts (has_masks n) (nat_le (field_count * length n.hands.own) n.cycle.scan.cursor)
+      let second = and_parts (has_masks n)
+      (nat_le (field_count * length n.hands.own) n.cycle.scan.cursor)
       first.0 in
       record {
         masks = λ other lower.
@@ -111,7 +121,8 @@ module _ {U : Type 0} (s : Shape) (h : Heap) (moves : ℕ → ℕ) (z : State) (
       }
 
 -- the state after a step shows the same of the heap, whether its caller is bare or not
-pub heap_bare : (s : Shape) (h : Heap) (moves : ℕ → ℕ) (y : State) (q : ℕ) (step : Step) (b c : Bool)
+pub heap_bare : (s : Shape) (h : Heap) (moves : ℕ → ℕ) (y : State) (q : ℕ) (step : Step)
+    (b c : Bool)
     → ShowsHeap s h moves (after y q b step) → ShowsHeap s h moves (after y q c step)
 heap_bare s h moves y q step b c a = record {
   shape = a.shape;
@@ -133,8 +144,8 @@ heap_bare s h moves y q step b c a = record {
   store = a.store;
 }
 
--- a step of the caller that n is afterwards, but for its bareness. So the rule, the heap and n are shown by
--- the state in which n is as bare as it becomes
+-- a step of the caller that n is afterwards, but for its bareness. So the rule, the heap and n are
+-- shown by the state in which n is as bare as it becomes
 module _ {U : Type 0} (s : Shape) (h : Heap) (moves : ℕ → ℕ) (y : State) (step : Step) (n : Part U)
     (was : Bool)
     (rule : rules.Good y) (below : n.number < y.shape.callers) (may : Allowed y n.number step)
@@ -158,9 +169,11 @@ module _ {U : Type 0} (s : Shape) (h : Heap) (moves : ℕ → ℕ) (y : State) (
   low : n.number < s.callers
   low = let a : y.shape.callers ≡ s.callers = ap (λ t. t.callers) shows.shape in omega arith
 
-  held_before : holds_from n ≡ false → (v : ℕ) → (after y n.number false step).hands.held n.number v ≡ true
+  held_before : holds_from n ≡ false → (v : ℕ) → (after y n.number false step).hands.held n.number v
+      ≡ true
       → views.known_from y.shape (after y n.number false step).masks n.number v ≡ false
-  held_before none = held_clean s h moves (after y n.number false step) shows rule_before placed (unbared n)
+  held_before none = held_clean s h moves (after y n.number false step) shows rule_before placed
+      (unbared n)
       mine
       hands low none
 
@@ -191,7 +204,8 @@ module _ {U : Type 0} (s : Shape) (h : Heap) (moves : ℕ → ℕ) (y : State) (
 
   -- the rule holds after the step
   pub rule_bare : rules.Good (after y n.number bare_now step)
-  rule_bare = good_step y n.number bare_now step record { below = below; allowed = may; truly = truly } rule
+  rule_bare = good_step y n.number bare_now step
+      record { below = below; allowed = may; truly = truly } rule
 
   -- the heap shows the state then
   pub heap_bared : ShowsHeap s h moves (after y n.number bare_now step)
@@ -229,19 +243,23 @@ module _ {U : Type 0} (s : Shape) (h : Heap) (moves : ℕ → ℕ) (y : State) (
     hands = record { held = mine.hands.held; next = mine.hands.next; written = mine.hands.written };
   }
 
--- a state that is reached from x by steps of a caller: its rule, and what heap and callers show of it
-pub record Stepped {U : Type 0} (s : Shape) (h : Heap) (before moves : ℕ → ℕ) (x : State) (n : Part U) : Type
+-- a state that is reached from x by steps of a caller: its rule, and what heap and callers show of
+-- it
+pub record Stepped {U : Type 0} (s : Shape) (h : Heap) (before moves : ℕ → ℕ) (x : State)
+    (n : Part U) : Type
     0 where
   pub state : State
   pub rule : rules.Good state
   pub heap : ShowsHeap s h moves state
   pub own : ShowsPart s moves state n
-  pub others : (r : Part U) → r.number ≢ n.number → ShowsPart s before x r → ShowsPart s moves state r
+  pub others : (r : Part U) → r.number ≢ n.number → ShowsPart s before x r → ShowsPart s moves state
+      r
 
 -- steps come behind steps
 pub stepped_on : {U : Type 0} (s : Shape) (h k : Heap) (before between moves : ℕ → ℕ) (x : State)
     (n new : Part U)
-    → (first : Stepped s h before between x n) → Stepped s k between moves first.state new → new.number
+    → (first : Stepped s h before between x n) → Stepped s k between moves first.state new
+    → new.number
     ≡ n.number
     → Stepped s k before moves x new
 stepped_on s h k before between moves x n new first second number = record {
@@ -253,43 +271,56 @@ stepped_on s h k before between moves x n new first second number = record {
 }
 
 -- a machine collects after such steps of one caller
-pub collects_now : {U : Type 0} (g : Site U) (c : Core U) (id place : ℕ) (v : View U) (p new : Part U)
-    (seen : List Entry) (h : Heap) (moves : ℕ → ℕ) → Carries c.views id place v p → new.number ≡ p.number
-    → ((j k : ℕ) (w : View U) (r : Part U) → Carries c.views j k w r → r.number ≡ p.number → (j ≡ id)
+pub collects_now : {U : Type 0} (g : Site U) (c : Core U) (id place : ℕ) (v : View U)
+    (p new : Part U)
+    (seen : List Entry) (h : Heap) (moves : ℕ → ℕ) → Carries c.views id place v p → new.number
+    ≡ p.number
+    → ((j k : ℕ) (w : View U) (r : Part U) → Carries c.views j k w r → r.number ≡ p.number
+    → (j ≡ id)
     × (k ≡ place))
     → (old : Collects g c) → Stepped g.shape h old.moves moves old.state new
-    → Collects g (record { heap = h; views = slice_set c.views id (view seen (slice_set v.parts place new)) })
+    → Collects g
+    (record { heap = h; views = slice_set c.views id (view seen (slice_set v.parts place new)) })
 collects_now g c id place v p new seen h moves at number apart old t = record {
   state = t.state;
   moves = moves;
   rule = t.rule;
   heap = t.heap;
-  parts = by_part c.views id place v p new seen at number (λ l r. ShowsPart g.shape moves t.state r) t.own
-      (λ k r ne there. let is : Carries c.views id k v r = record { seat = at.seat; place = there } in
+  parts = by_part c.views id place v p new seen at number (λ l r. ShowsPart g.shape moves t.state r)
+      t.own
+      (λ k r ne there.
+      let is : Carries c.views id k v r = record { seat = at.seat; place = there } in
       t.others r (λ e. ne (apart id k v r is (e ∙ number)).1) (old.parts id k v r is))
-      (λ j k w r ne is. t.others r (λ e. ne (apart j k w r is (e ∙ number)).0) (old.parts j k w r is));
+      (λ j k w r ne is. t.others r (λ e. ne (apart j k w r is (e ∙ number)).0)
+      (old.parts j k w r is));
 }
 
--- a caller that was replaced already takes such steps, and is replaced again: `first` is what it became first
-pub collects_again : {U : Type 0} (g : Site U) (h : Heap) (views : List (View U)) (id place : ℕ) (v : View U)
-    (p first new : Part U) (seen more : List Entry) → Carries views id place v p → first.number ≡ p.number
+-- a caller that was replaced already takes such steps, and is replaced again: `first` is what it
+-- became first
+pub collects_again : {U : Type 0} (g : Site U) (h : Heap) (views : List (View U)) (id place : ℕ)
+    (v : View U)
+    (p first new : Part U) (seen more : List Entry) → Carries views id place v p → first.number
+    ≡ p.number
     → new.number ≡ first.number
     → ((j k m n : ℕ) (u w : View U) (q r : Part U) → Carries views j k u q → Carries views m n w r
     → q.number ≡ r.number → (j ≡ m) × (k ≡ n))
     → (old : Collects g
     (record { heap = h; views = slice_set views id (view seen (slice_set v.parts place first)) }))
     → Stepped g.shape h old.moves old.moves old.state new
-    → Collects g (record { heap = h; views = slice_set views id (view more (slice_set v.parts place new)) })
+    → Collects g
+    (record { heap = h; views = slice_set views id (view more (slice_set v.parts place new)) })
 collects_again g h views id place v p first new seen more at number same apart old t =
     let u = view seen (slice_set v.parts place first) in
     let here : Carries (slice_set views id u) id place u first = record {
       seat = set_here views id v u at.seat;
       place = set_here v.parts place p first at.place;
     } in
-    let now = collects_now g (record { heap = h; views = slice_set views id u }) id place u first new more h
+    let now = collects_now g (record { heap = h; views = slice_set views id u }) id place u first
+    new more h
     old.moves
     here same
-    (λ j k w r is e. apart_now views id place v p first seen at number apart j k id place w u r first is here
+    (λ j k w r is e. apart_now views id place v p first seen at number apart j k id place w u r
+    first is here
     e) old t in
     let parts : slice_set (slice_set v.parts place first) place new ≡ slice_set v.parts place new =
     set-set v.parts place first new in

@@ -27,12 +27,14 @@ reply_word_told w None e = inl e
 reply_word_told w (Some r) e = inr (r, e)
 
 -- a version that is published ends no cycle
-done_same : (places : Places) (row : ℕ) (o : Option Known) → (places_with places row o).done ≡ places.done
+done_same : (places : Places) (row : ℕ) (o : Option Known) → (places_with places row o).done
+    ≡ places.done
 done_same places row None = refl
 done_same places row (Some k) = refl
 
 module _ {U : Type 0} (lawful : U → PlainStore → Type 0) (allowed : U → PlainStore → Entry → Type 0)
-    (laws : (u : U) → UsageLaws (lawful u) (allowed u)) (c : Core U) (id place : ℕ) (v : View U) (p : Part U)
+    (laws : (u : U) → UsageLaws (lawful u) (allowed u)) (c : Core U) (id place : ℕ) (v : View U)
+    (p : Part U)
     (good : Good lawful allowed p.site c) (at : Carries c.views id place v p) where
   mine : PartIsGood p.site c.heap v.seen p
   mine = good.parts id place v p at
@@ -50,15 +52,18 @@ module _ {U : Type 0} (lawful : U → PlainStore → Type 0) (allowed : U → Pl
       let done = old.heap.done in
       let seen = (old.parts id place v p at).clock.seen.done_is in omega arith
 
-  fits : (h : Heap) → HeapIsGood lawful allowed p.site h → h.places.done ≤ done_limit p → (o : Option Known)
+  fits : (h : Heap) → HeapIsGood lawful allowed p.site h → h.places.done ≤ done_limit p
+      → (o : Option Known)
       → IfSome o (IsPublished h.index) → IfSome o (IsFit p.site.shape (done_limit p))
   fits h kept low o is = some_more (IsPublished h.index) (IsFit p.site.shape (done_limit p))
       (λ k there. record {
         version = kept.placed.fits k there;
         rank =
             let a = rank_small p.site.shape h.index h.places kept.placed kept.ranked k there in
-            let b : version_count p.site.shape * (h.places.done + 1) ≤ version_count p.site.shape * (done_limit p + 1) =
-            mul-le-mul_left (version_count p.site.shape) (omega (arith, low)) in omega (arith, a, b);
+            let b : version_count p.site.shape * (h.places.done + 1)
+            ≤ version_count p.site.shape * (done_limit p + 1) =
+            mul-le-mul_left (version_count p.site.shape) (omega (arith, low)) in
+            omega (arith, a, b);
         sized = kept.placed.sized k there;
       }) o is
 
@@ -93,24 +98,30 @@ module _ {U : Type 0} (lawful : U → PlainStore → Type 0) (allowed : U → Pl
       → IsLawfulMove lawful allowed c.heap p record { act = act; scan = scan; let_go = o }
       → Found act (slice_index c.heap.words (word_of p act))
       (finds c.heap.index act (slice_index c.heap.words (word_of p act)))
-      × IfSome (finds c.heap.index act (slice_index c.heap.words (word_of p act))) (IsPublished c.heap.index)
+      × IfSome (finds c.heap.index act (slice_index c.heap.words (word_of p act)))
+      (IsPublished c.heap.index)
   found_act (Looks l) scan o may =
-      worked_found lawful allowed laws c id place v p record { act = Looks l; scan = scan; let_go = o } good at may tt
+      worked_found lawful allowed laws c id place v p
+      record { act = Looks l; scan = scan; let_go = o } good at may tt
   found_act (Builds b) scan o may =
-      worked_found lawful allowed laws c id place v p record { act = Builds b; scan = scan; let_go = o } good at may tt
+      worked_found lawful allowed laws c id place v p
+      record { act = Builds b; scan = scan; let_go = o } good at may tt
   found_act (Ticks t) scan o may = (tick_found t may.act, tt)
   found_act (Shifts f) scan o may = (shift_found f may.act, tt)
 
   -- a version that an act publishes fits
-  fit_act : (act : Act) → HeapIsGood lawful allowed p.site (heap_after c.heap p act (slice_index c.heap.words (word_of p act)))
-      → IfSome (publishes act (slice_index c.heap.words (word_of p act))) (IsFit p.site.shape (done_limit p))
+  fit_act : (act : Act) → HeapIsGood lawful allowed p.site
+      (heap_after c.heap p act (slice_index c.heap.words (word_of p act)))
+      → IfSome (publishes act (slice_index c.heap.words (word_of p act)))
+      (IsFit p.site.shape (done_limit p))
   fit_act (Looks l) kept = tt
   fit_act (Ticks t) kept = tt
   fit_act (Shifts f) kept = tt
   fit_act (Builds b) kept =
       let x : ℕ = slice_index c.heap.words (word_of p (Builds b)) in
       fits (heap_after c.heap p (Builds b) x) kept
-      (subst (λ (n : ℕ). n ≤ done_limit p) (sym (done_same c.heap.places (row_of_part p) (publishes (Builds b) x))) done_low)
+      (subst (λ (n : ℕ). n ≤ done_limit p)
+      (sym (done_same c.heap.places (row_of_part p) (publishes (Builds b) x))) done_low)
       (publishes (Builds b) x) (new_now c.heap.index (publishes (Builds b) x))
 
   module _ (m : Move) (may : IsLawfulMove lawful allowed c.heap p m)
@@ -140,15 +151,18 @@ module _ {U : Type 0} (lawful : U → PlainStore → Type 0) (allowed : U → Pl
         record {
           between = begins.rest;
           found = finds c.heap.index m.act x;
-          others = others_only p.number v.seen c.heap.history p.calls.mine begins.rest begins.is mine.calls.all
+          others = others_only p.number v.seen c.heap.history p.calls.mine begins.rest begins.is
+              mine.calls.all
               mine.calls.seen;
           what = found.0;
           fit = fits c.heap good.heap done_low (finds c.heap.index m.act x) found.1;
           fit_new = fit_act m.act after.heap;
           once = λ k n here hence. published_once (applied c id place v p m).heap.index k n
               (own_after.hands.held k here) (own_after.hands.held n hence);
-          is = ap (λ (l : List Entry). view_after v place l p m x (finds c.heap.index m.act x)) begins.is;
+          is = ap (λ (l : List Entry). view_after v place l p m x (finds c.heap.index m.act x))
+              begins.is;
           history = lawful_before (lawful p.site.usage) (allowed p.site.usage) p.site.start w.seen
-              (applied c id place v p m).heap.history own_after.calls.opened (after.seen id w there.seat)
+              (applied c id place v p m).heap.history own_after.calls.opened
+              (after.seen id w there.seat)
               after.heap.history;
         }

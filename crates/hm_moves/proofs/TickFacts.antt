@@ -103,17 +103,21 @@ known_after old new l q n k is =
     (λ e. IsKnownReply (slice_index_or (if e then l else map no_reply l) q None) n k)
     [ true ↦ is | false ↦ subst (λ o. IsKnownReply o n k) (sym (none_replied l q)) tt ]
 
-pub wide_after : (old new : Seen) (l : List (Option Reply)) → length (replies_after old new l) ≡ length l
+pub wide_after : (old new : Seen) (l : List (Option Reply)) → length (replies_after old new l)
+    ≡ length l
 wide_after old new l =
-    elim (seen_word new == seen_word old) as (λ e. length (if e then l else map no_reply l) ≡ length l)
+    elim (seen_word new == seen_word old) as (λ e. length (if e then l else map no_reply l)
+    ≡ length l)
     [ true ↦ refl | false ↦ length-map l no_reply ]
 
 -- only names that are there are in the store
 abbrev pub ShowsStore : State → List Entry → Type 0
-ShowsStore x es = (o : ℕ) → x.store.has o ≡ true → (n : Name) × IsThere (store_of es) n × (o ≡ name_shown n)
+ShowsStore x es = (o : ℕ) → x.store.has o ≡ true → (n : Name) × IsThere (store_of es) n
+    × (o ≡ name_shown n)
 
 -- nothing is dead where all joined in this cycle, and afterwards what was given up is
-pub dead_then : (dead from : Bool) (joined now : ℕ) → dead ≡ (from && nat_lt joined now) → joined ≡ now
+pub dead_then : (dead from : Bool) (joined now : ℕ) → dead ≡ (from && nat_lt joined now) → joined
+    ≡ now
     → (dead || from) ≡ (from && nat_lt joined (now + 1))
 dead_then dead from joined now is tied = grind (arith, nat_tests)
 
@@ -129,9 +133,11 @@ module _ {A : Type 0} where
   pub put_here : (facts : ℕ → A) (at : ℕ) (a : A) → put facts at a at ≡ a
   put_here facts at a = rw (eq-eqb at at refl) refl
 
-  pub put_else : (facts : ℕ → A) (at other : ℕ) (a : A) → other ≢ at → put facts at a other ≡ facts other
+  pub put_else : (facts : ℕ → A) (at other : ℕ) (a : A) → other ≢ at → put facts at a other
+      ≡ facts other
   put_else facts at other a ne = rw (ne_eqb other at ne) refl
 
-  pub put_row_here : (facts : ℕ → ℕ → A) (at : ℕ) (row : ℕ → A) (item : ℕ) → put_row facts at row at item
+  pub put_row_here : (facts : ℕ → ℕ → A) (at : ℕ) (row : ℕ → A) (item : ℕ) → put_row facts at row at
+      item
       ≡ row item
   put_row_here facts at row item = rw (eq-eqb at at refl) refl

@@ -100,13 +100,15 @@ module _ (h : Heap) {U : Type 0} (moves : ℕ → ℕ) (x : State) (p : Part U)
 
   -- a reply that is stored is shown
   pub heap_replied : (reply : Reply) → x.clock.seen q ≡ reply.number + 1
-      → ShowsHeap s (heap_after h p (Ticks (StoreReply reply)) (slice_index h.words (reply_at q))) moves
+      → ShowsHeap s (heap_after h p (Ticks (StoreReply reply)) (slice_index h.words (reply_at q)))
+      moves
       (after x q b (steps.Ticks (steps.StoreReply (reply_shown reply.kind))))
   heap_replied reply seen = record {
     shape = shows.shape;
     stage = subst (λ w. IsStage (stage_in w) x.clock.number x.clock.done x.clock.phase)
         (sym (stage_still (reply_at q) (reply_word reply) (λ e. omega arith))) shows.stage;
-    moved = ap (λ w. (stage_in w).number) (stage_still (reply_at q) (reply_word reply) (λ e. omega arith))
+    moved = ap (λ w. (stage_in w).number)
+        (stage_still (reply_at q) (reply_word reply) (λ e. omega arith))
         ∙ shows.moved;
     replies = λ r little. ⊎_elim
         (λ (e : ((r == q) ≡ true) × (r ≡ q)). replies_own r e.1 e.0)
@@ -135,7 +137,9 @@ module _ (h : Heap) {U : Type 0} (moves : ℕ → ℕ) (x : State) (p : Part U)
           (if r == q then reply_shown reply.kind else x.clock.reply r)
       replies_own r is test = record {
         reply = Some reply;
-        word_is = ap (λ i. slice_index (slice_set h.words (reply_at q) (reply_word reply)) (reply_at i)) is
+        word_is =
+            ap (λ i. slice_index (slice_set h.words (reply_at q) (reply_word reply)) (reply_at i))
+            is
             ∙ get_or-set_same h.words (reply_at q) (reply_word reply) 0 (omega arith);
         shown = (
           ap (λ e. if e then x.clock.seen q else x.clock.replied r) test ∙ seen,
@@ -159,7 +163,8 @@ module _ (h : Heap) {U : Type 0} (moves : ℕ → ℕ) (x : State) (p : Part U)
       × (x.clock.phase ≡ phase_shown from.phase)
       × (from.number ≡ total moves s.callers)
   stage_met from is fits seen at =
-      let back : stage_in (slice_index h.words stage_at) ≡ from = ap stage_in at ∙ stage_back from fits in
+      let back : stage_in (slice_index h.words stage_at) ≡ from = ap stage_in at ∙ stage_back from
+      fits in
       let there : IsStage from x.clock.number x.clock.done x.clock.phase =
       subst (λ z. IsStage z x.clock.number x.clock.done x.clock.phase) back shows.stage in
       let mine : IsStage from (x.clock.seen q) (x.clock.seen_done q) (x.clock.seen_phase q) =
@@ -187,9 +192,11 @@ module _ (h : Heap) {U : Type 0} (moves : ℕ → ℕ) (x : State) (p : Part U)
 
     now : stage_in (slice_index (slice_set h.words 0 new) stage_at) ≡ to
     now = ap stage_in (get_or-set_same h.words 0 new 0 (omega arith)
-        ∙ ap (λ e. if e then seen_word to else slice_index h.words stage_at) hit) ∙ stage_back to go.fits
+        ∙ ap (λ e. if e then seen_word to else slice_index h.words stage_at) hit)
+        ∙ stage_back to go.fits
 
-    was_published : (gone : Bool) (k : Known) → (if gone then None else h.index k.version.0) ≡ Some k
+    was_published : (gone : Bool) (k : Known) → (if gone then None else h.index k.version.0)
+        ≡ Some k
         → IsPublished h.index k
     was_published true k there = cc
     was_published false k there = there
@@ -206,7 +213,8 @@ module _ (h : Heap) {U : Type 0} (moves : ℕ → ℕ) (x : State) (p : Part U)
         done_by First = shows.done
         done_by Second = shows.done
 
-    dead_now : x.clock.phase ≡ phase_shown from.phase → rounds.Good x → (row : ℕ) → row < row_count s
+    dead_now : x.clock.phase ≡ phase_shown from.phase → rounds.Good x → (row : ℕ) → row < row_count
+        s
         → (h.places.dead row || (ends && is_from (h.places.role row)))
         ≡ (is_from (h.places.role row) && nat_lt (x.ties.done (owner_shown s row))
         (moved_done x.clock.done (phase_shown to.phase)))
@@ -224,9 +232,11 @@ module _ (h : Heap) {U : Type 0} (moves : ℕ → ℕ) (x : State) (p : Part U)
             let second : x.clock.phase ≡ phases.Second = phase
             ∙ ap phase_shown (from_second p from.phase may) in
             let below : owner_shown s row < x.shape.callers =
-            subst (λ (z : state.Shape). z.owner row < x.shape.callers) shows.shape (rule.safe.owners row) in
+            subst (λ (z : state.Shape). z.owner row < x.shape.callers) shows.shape
+            (rule.safe.owners row) in
             let tied = (rule.tied (owner_shown s row)).in_round below (ap phases.is_round second) in
-            dead_then (h.places.dead row) (is_from (h.places.role row)) (x.ties.done (owner_shown s row))
+            dead_then (h.places.dead row) (is_from (h.places.role row))
+            (x.ties.done (owner_shown s row))
             x.clock.done (shows.dead row little) tied
         dead_by Join may = still
         dead_by First may = still
@@ -242,7 +252,8 @@ module _ (h : Heap) {U : Type 0} (moves : ℕ → ℕ) (x : State) (p : Part U)
         (after x q b (steps.Ticks (steps.MoveStage (phase_shown to.phase))))
     heap_moved number done phase count rule = record {
       shape = shows.shape;
-      stage = subst (λ z. IsStage z (x.clock.number + 1) (moved_done x.clock.done (phase_shown to.phase))
+      stage = subst
+          (λ z. IsStage z (x.clock.number + 1) (moved_done x.clock.done (phase_shown to.phase))
           (phase_shown to.phase)) (sym now)
           record {
             number_is = let a = go.number in omega arith;

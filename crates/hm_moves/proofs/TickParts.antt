@@ -25,7 +25,8 @@ use Rattle.hm_rounds.specs.After.{after}
 use Rattle.hm_rounds.specs.Allowed as may
 use Rattle.hm_moves.proofs.TickFacts.{first_shown, known_after, put_else, put_here, put_row_here, reply_known, wide_after}
 
-module _ {U : Type 0} (moves : ℕ → ℕ) (x : State) (p : Part U) (mine : ShowsPart p.site.shape moves x p)
+module _ {U : Type 0} (moves : ℕ → ℕ) (x : State) (p : Part U)
+    (mine : ShowsPart p.site.shape moves x p)
   where
     abbrev bare : Bool
     bare = p.cycle.scan.bare
@@ -137,7 +138,8 @@ module _ {U : Type 0} (moves : ℕ → ℕ) (x : State) (p : Part U) (mine : Sho
 
     -- a stage that the caller sees is shown
     stage_here : (stage : Seen) (n d : ℕ) (f : phases.Phase) → IsStage stage n d f
-        → IsStage stage (put x.clock.seen p.number n p.number) (put x.clock.seen_done p.number d p.number)
+        → IsStage stage (put x.clock.seen p.number n p.number)
+        (put x.clock.seen_done p.number d p.number)
         (put x.clock.seen_phase p.number f p.number)
     stage_here stage n d f is = record {
       number_is = put_here x.clock.seen p.number n ∙ is.number_is;
@@ -165,15 +167,20 @@ module _ {U : Type 0} (moves : ℕ → ℕ) (x : State) (p : Part U) (mine : Sho
         → ShowsClock (readied p (Ticks (MoveStage from to)) w) moves
         (after x p.number bare (steps.Ticks steps.LoadStage))
     clock_missed from to w miss is =
-        let same : moved_stage from to w ≡ w = ap (λ e. if e then seen_word to else w) miss in record {
-          seen = stage_here (stage_in (moved_stage from to w)) x.clock.number x.clock.done x.clock.phase
-              (subst (λ v. IsStage (stage_in v) x.clock.number x.clock.done x.clock.phase) (sym same) is);
+        let same : moved_stage from to w ≡ w = ap (λ e. if e then seen_word to else w) miss in
+        record {
+          seen = stage_here (stage_in (moved_stage from to w)) x.clock.number x.clock.done
+              x.clock.phase
+              (subst (λ v. IsStage (stage_in v) x.clock.number x.clock.done x.clock.phase)
+              (sym same) is);
           reply = mine.clock.reply;
-          wide = wide_after p.cycle.clock.stage (stage_in (moved_stage from to w)) p.cycle.clock.replies
+          wide = wide_after p.cycle.clock.stage (stage_in (moved_stage from to w))
+              p.cycle.clock.replies
               ∙ mine.clock.wide;
           replies = λ r little. known_after p.cycle.clock.stage (stage_in (moved_stage from to w))
               p.cycle.clock.replies r
-              (x.clock.known p.number r) (x.clock.known_reply p.number r) (mine.clock.replies r little);
+              (x.clock.known p.number r) (x.clock.known_reply p.number r)
+              (mine.clock.replies r little);
           moved = ap (λ e. if e then p.cycle.clock.moves + 1 else p.cycle.clock.moves) miss
               ∙ mine.clock.moved;
         }
@@ -189,14 +196,17 @@ module _ {U : Type 0} (moves : ℕ → ℕ) (x : State) (p : Part U) (mine : Sho
         ap (λ e. stage_in (if e then seen_word to else w)) hit ∙ stage_back to fits in record {
           seen = stage_here (stage_in (moved_stage from to w)) (x.clock.number + 1)
               (moved_done x.clock.done (phase_shown to.phase)) (phase_shown to.phase)
-              (subst (λ z. IsStage z (x.clock.number + 1) (moved_done x.clock.done (phase_shown to.phase))
+              (subst (λ z. IsStage z (x.clock.number + 1)
+              (moved_done x.clock.done (phase_shown to.phase))
               (phase_shown to.phase)) (sym same) is);
           reply = mine.clock.reply;
-          wide = wide_after p.cycle.clock.stage (stage_in (moved_stage from to w)) p.cycle.clock.replies
+          wide = wide_after p.cycle.clock.stage (stage_in (moved_stage from to w))
+              p.cycle.clock.replies
               ∙ mine.clock.wide;
           replies = λ r little. known_after p.cycle.clock.stage (stage_in (moved_stage from to w))
               p.cycle.clock.replies r
-              (x.clock.known p.number r) (x.clock.known_reply p.number r) (mine.clock.replies r little);
+              (x.clock.known p.number r) (x.clock.known_reply p.number r)
+              (mine.clock.replies r little);
           moved = ap (λ e. if e then p.cycle.clock.moves + 1 else p.cycle.clock.moves) hit
               ∙ (ap (λ n. n + 1) mine.clock.moved ∙ sym (raised_here moves p.number));
         }
@@ -225,7 +235,8 @@ module _ {U : Type 0} (moves : ℕ → ℕ) (x : State) (p : Part U) (mine : Sho
             (slice_index_or (slice_set p.cycle.clock.replies of (reply_in w)) r None)
             (put_row x.clock.known p.number (put (x.clock.known p.number) of (x.clock.replied of))
             p.number r)
-            (put_row x.clock.known_reply p.number (put (x.clock.known_reply p.number) of (x.clock.reply of))
+            (put_row x.clock.known_reply p.number
+            (put (x.clock.known_reply p.number) of (x.clock.reply of))
             p.number r)
         heard_at r o n k e f g is =
             rw (e) (rw (put_row_here x.clock.known p.number
@@ -237,7 +248,8 @@ module _ {U : Type 0} (moves : ℕ → ℕ) (x : State) (p : Part U) (mine : Sho
             → IsKnownReply (slice_index_or (slice_set p.cycle.clock.replies of (reply_in w)) r None)
             (put_row x.clock.known p.number (put (x.clock.known p.number) of (x.clock.replied of))
             p.number r)
-            (put_row x.clock.known_reply p.number (put (x.clock.known_reply p.number) of (x.clock.reply of))
+            (put_row x.clock.known_reply p.number
+            (put (x.clock.known_reply p.number) of (x.clock.reply of))
             p.number r)
         heard_here r e = heard_at r (reply_in w) (x.clock.replied of) (x.clock.reply of)
             (ap (λ i. slice_index_or (slice_set p.cycle.clock.replies of (reply_in w)) i None) e
@@ -253,7 +265,8 @@ module _ {U : Type 0} (moves : ℕ → ℕ) (x : State) (p : Part U) (mine : Sho
             → IsKnownReply (slice_index_or (slice_set p.cycle.clock.replies of (reply_in w)) r None)
             (put_row x.clock.known p.number (put (x.clock.known p.number) of (x.clock.replied of))
             p.number r)
-            (put_row x.clock.known_reply p.number (put (x.clock.known_reply p.number) of (x.clock.reply of))
+            (put_row x.clock.known_reply p.number
+            (put (x.clock.known_reply p.number) of (x.clock.reply of))
             p.number r)
         heard_else r little ne = heard_at r (slice_index_or p.cycle.clock.replies r None)
             (x.clock.known p.number r) (x.clock.known_reply p.number r)
@@ -297,7 +310,8 @@ module _ {U : Type 0} (moves : ℕ → ℕ) (x : State) (p : Part U) (mine : Sho
       all_replied kind have r little = (known_shown r (omega arith) kind (have r (omega arith))).0
 
       -- the stage may move in the state where its mover may move it
-      pub go_shown : (f g : Phase) → MayGo p f g → may.MayMove x p.number (phase_shown f) (phase_shown g)
+      pub go_shown : (f g : Phase) → MayGo p f g → may.MayMove x p.number (phase_shown f)
+          (phase_shown g)
       go_shown Idle Idle go = absurd go
       go_shown Idle Join go = tt
       go_shown Idle First go = absurd go
@@ -310,8 +324,11 @@ module _ {U : Type 0} (moves : ℕ → ℕ) (x : State) (p : Part U) (mine : Sho
       go_shown First Join go = tt
       go_shown First First go = absurd go
       go_shown First Second go = all_replied Clean go
-      go_shown Second Idle go =
-          (all_replied Clean go, λ r little. (known_shown r (omega arith) Clean (go r (omega arith))).1)
+      go_shown Second Idle go = (
+        all_replied Clean go,
+        λ r little.
+            (known_shown r (omega arith) Clean (go r (omega arith))).1,
+      )
       go_shown Second Join go = tt
       go_shown Second First go = λ r little. let is = go.all r (omega arith) in
           (known_shown r (omega arith) is.kind is.is).0

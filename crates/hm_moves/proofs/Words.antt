@@ -1,4 +1,5 @@
--- The words that these proofs speak of, and the lemmas of lower crates that they cite, from one place.
+-- The words that these proofs speak of, and the lemmas of lower crates that they cite, from one
+-- place.
 pub use Rattle.std.specs.List.{flat_map, list_any}
 pub use Rattle.std.specs.Prelude.{slice_get}
 pub use Rattle.std.proofs.lemmas.Bool.Decides.{nat_tests, eqb_tells}

@@ -23,7 +23,7 @@ use Rattle.hm_moves.specs.declared.moving.Move.{Move}
 use Rattle.hm_moves.specs.Chain.{Index, with_one}
 use Rattle.hm_moves.specs.Places.{Heap, Places, row_of, places_with}
 use Rattle.hm_moves.specs.Acts.{word_of, becomes, entry_of, publishes, listed}
-use Rattle.hm_moves.specs.Cycles.{is_from, is_idle, is_version, role_at, bared, cursor_after, found_end, mark_after}
+use Rattle.hm_moves.specs.Cycles.{is_from, is_idle, is_version, role_at, bared, cursor_after, found_end, mark_after, met_after}
 use Rattle.hm_moves.specs.Decoding.{seen_word}
 use Rattle.hm_moves.specs.Shifts.{frees, nothing_written, readied}
 
@@ -190,6 +190,7 @@ module _ {U : Type 0} where
         mark = mark_after p m found;
         cursor = cursor_after p m found;
         ends = p.cycle.scan.ends ++ found_end m.act x;
+        met = met_after p m found;
       };
     };
   }

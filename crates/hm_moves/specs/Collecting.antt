@@ -1,5 +1,5 @@
--- What every moment of the machine keeps of use again: which versions are reached, and how the callers
--- of a cycle stand.
+-- What every moment of the machine keeps of use again: which versions are reached, and how the
+-- callers of a cycle stand.
 use Rattle.std.specs.Prelude.{◌≡◌, ◌≢◌, ℕ, suc, ◌+◌, ◌*◌, ◌<◌, ◌≤◌, ◌⊎◌, Bool, true, false, List, slice_get, slice_index, Option, Some, Contains}
 use Rattle.hm_shape.specs.declared.reply.Reply.{Reply}
 use Rattle.hm_shape.specs.declared.reply.ReplyKind.TheVariants.{Clean}
@@ -46,16 +46,16 @@ pub record KeepsNames (s : Shape) (h : Heap) : Type 0 where
       → words_at s h.words k i ≡ suc v → (m : Known) × IsPublished h.index m × (m.version.0 ≡ v)
 
 module _ {U : Type 0} where
-  -- the reach is the least set that has what callers hold, and with each version those that its link
-  -- and its references name
+  -- the reach is the least set that has what callers hold, and with each version those that its
+  -- link and its references name
   pub data Reached (s : Shape) (c : Core U) : Version → Type 0 where
     held : (j k : ℕ) (v : View U) (p : Part U) (m : Known) → Carries c.views j k v p
         → Contains p.hands.held m → Reached s c m.version
     named : (v w : Version) (i : ℕ) → Reached s c v → is_naming i ≡ true
         → slice_index c.heap.words (word_at s v i) ≡ naming_word (Some w) → Reached s c w
 
-  -- what is reached is published, its place counts as used, its region is neither Free nor dead, and
-  -- nobody is given it as the next version
+  -- what is reached is published, its place counts as used, its region is neither Free nor dead,
+  -- and nobody is given it as the next version
   pub record KeepsReach (s : Shape) (c : Core U) : Type 0 where
     pub published : (v : Version) → Reached s c v
         → (k : Known) × IsPublished c.heap.index k × (k.version ≡ v)
@@ -65,12 +65,13 @@ module _ {U : Type 0} where
     pub given : (v : Version) (j k : ℕ) (w : View U) (p : Part U) → Reached s c v
         → Carries c.views j k w p → HasRoom p → v ≢ next_version p
 
-  -- in a round every caller has joined in this cycle, and each mask that a caller has is its owner's
-  -- present one
+  -- in a round every caller has joined in this cycle, and each mask that a caller has is its
+  -- owner's present one
   pub record KeepsJoins (s : Shape) (c : Core U) : Type 0 where
     pub joined : (j k : ℕ) (v : View U) (p : Part U) → Carries c.views j k v p
         → is_round (stage_of c.heap).phase ≡ true → p.cycle.ties.done ≡ (stage_of c.heap).done
-    pub masks : (j k : ℕ) (v : View U) (p : Part U) (q g : ℕ) (roles : Roles) → Carries c.views j k v p
+    pub masks : (j k : ℕ) (v : View U) (p : Part U) (q g : ℕ) (roles : Roles)
+        → Carries c.views j k v p
         → is_round (stage_of c.heap).phase ≡ true → q < s.callers → g < s.regions
         → mask_of p q ≡ Some roles
         → gives_from (Some roles) g ≡ is_from (c.heap.places.role (row_of s q g))
@@ -82,8 +83,8 @@ module _ {U : Type 0} where
     named : (k : Known) (w : Version) (i : ℕ) → Contains p.hands.own k → is_naming i ≡ true
         → words_at s words k i ≡ naming_word (Some w) → InHolding s words p w
 
-  -- a caller that has replied Clean to the present First, and is unmarked, has nothing of from-space
-  -- in its holding
+  -- a caller that has replied Clean to the present First, and is unmarked, has nothing of
+  -- from-space in its holding
   pub record KeepsClean (s : Shape) (c : Core U) : Type 0 where
     pub clean : (j k : ℕ) (v : View U) (p : Part U) (w : Version) → Carries c.views j k v p
         → (stage_of c.heap).phase ≡ First
@@ -106,8 +107,9 @@ module _ {U : Type 0} where
         → (stage_of c.heap).phase ≡ Second → InHolding s c.heap.words p w
         → c.heap.places.role (row_in s w) ≡ From → IsWarned s c
 
-  -- nobody has replied ahead of the stage, and in a round each has replied to it or to the one before;
-  -- the stage's number is the sum of all callers' moves, and at least four for each cycle that is done
+  -- nobody has replied ahead of the stage, and in a round each has replied to it or to the one
+  -- before; the stage's number is the sum of all callers' moves, and at least four for each cycle
+  -- that is done
   pub record KeepsTime (s : Shape) (c : Core U) : Type 0 where
     pub ahead : (q : ℕ) (r : Reply) → q < s.callers → reply_of c.heap q ≡ Some r
         → r.number ≤ (stage_of c.heap).number
@@ -120,8 +122,8 @@ module _ {U : Type 0} where
         → p.cycle.clock.moves ≡ moves p.number
     pub sum : (stage_of c.heap).number ≡ total moves s.callers
 
-  -- a caller's scan tells the truth: what it has seen done is done, and all have joined since; what it
-  -- knows as from-space is From; what its cursor has passed names none of that, nor does a later
+  -- a caller's scan tells the truth: what it has seen done is done, and all have joined since; what
+  -- it knows as from-space is From; what its cursor has passed names none of that, nor does a later
   -- version than an end that it found lie there, nor has its holding any where it is bare
   pub record ScansRight (s : Shape) (c : Core U) (p : Part U) : Type 0 where
     pub seen : p.cycle.clock.stage.done ≡ (stage_of c.heap).done
@@ -130,7 +132,8 @@ module _ {U : Type 0} where
     pub from : (k : Known) → IsPublished c.heap.index k → known_from p k.version ≡ true
         → c.heap.places.role (row_in s k.version) ≡ From
     pub passed : (i f v : ℕ) (k : Known) → slice_get p.hands.own i ≡ Some k → f < field_count
-        → i * field_count + f < p.cycle.scan.cursor → words_at s c.heap.words k (field_word f) ≡ suc v
+        → i * field_count + f < p.cycle.scan.cursor
+        → words_at s c.heap.words k (field_word f) ≡ suc v
         → known_from p record { 0 = v } ≡ false
     pub ends : (e : End) (k : Known) → Contains p.cycle.scan.ends e → IsPublished c.heap.index k
         → k.name ≡ e.name → e.rank < k.rank → known_from p k.version ≡ false

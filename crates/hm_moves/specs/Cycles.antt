@@ -1,4 +1,5 @@
--- What a caller knows of the collector's cycle: of stage and replies, of from-space, and of its scan.
+-- What a caller knows of the collector's cycle: of stage and replies, of from-space, and of its
+-- scan.
 use Rattle.std.specs.Prelude.{ℕ, zero, suc, ◌+◌, ◌*◌, ◌/◌, ◌%◌, ◌==◌, ◌&&◌, ◌||◌, not, nat_le, nat_lt, Bool, true, false, List, [], ◌∷◌, length, slice_get, slice_index_or, Option, Some, None, is_some, if◌then◌else◌}
 use Rattle.std.specs.List.{list_all, list_any}
 use Rattle.hm_shape.specs.declared.reply.Reply.{Reply}
@@ -144,6 +145,21 @@ module _ {U : Type 0} where
   passes p m found (Builds (Shorten at i target)) = has_masks p && is_at_cursor p at i
   passes p m found (Ticks t) = false
   passes p m found (Shifts f) = false
+
+  -- a scan's load at the cursor stops there where it finds from-space
+  abbrev pub stops : Part U → Move → Option Known → Act → Bool
+  stops p m found (Looks l) =
+      is_scan p m (Looks l) && has_masks p && is_at_cursor p (looked_at l) (looked_word l)
+      && meets p found
+  stops p m found (Builds b) = false
+  stops p m found (Ticks t) = false
+  stops p m found (Shifts f) = false
+
+  -- and what it found stays met until the word is passed
+  abbrev pub met_after : Part U → Move → Option Known → Option Known
+  met_after p m found =
+      if passes p m found m.act then None
+      else if stops p m found m.act then found else p.cycle.scan.met
 
   -- the cursor after that
   abbrev pub cursor_after : Part U → Move → Option Known → ℕ

@@ -99,6 +99,7 @@ fresh_cycle s = record {
     cursor = 0;
     ends = [];
     bare = false;
+    met = None;
   };
 }
 

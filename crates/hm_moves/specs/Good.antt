@@ -1,5 +1,5 @@
 -- What holds of the machine between any two moves, and how seats are split and joined.
-use Rattle.std.specs.Prelude.{◌≡◌, ℕ, ◌/◌, ◌<◌, true, false, List, [], ◌∷◌, ◌++◌, length, slice_index, slice_set, Option, Contains, All, nat_lt, if◌then◌else◌}
+use Rattle.std.specs.Prelude.{◌≡◌, ℕ, ◌/◌, ◌%◌, ◌<◌, true, false, List, [], ◌∷◌, ◌++◌, length, slice_get, slice_index, slice_set, Option, Some, Contains, All, nat_lt, if◌then◌else◌}
 use Rattle.std.specs.List.{list_any}
 use mathlib.Core.Option.{some}
 use lib.ListN.{get_elem?}
@@ -8,7 +8,7 @@ use Rattle.hm_shape.specs.declared.shape.Shape.{Shape}
 use Rattle.hm_shape.specs.declared.version.Version.{Version}
 use Rattle.hm_shape.specs.Layout.{version_words}
 use Rattle.hm_shape.specs.Versions.{version_at}
-use Rattle.hm_shape.specs.Words.{word_at, word_count}
+use Rattle.hm_shape.specs.Words.{naming_word, word_at, word_count}
 use Rattle.hm_model.specs.declared.object.Start.{Start}
 use Rattle.hm_model.specs.declared.entry.Entry.{Entry}
 use Rattle.hm_model.specs.Store.{PlainStore}
@@ -22,11 +22,11 @@ use Rattle.hm_moves.specs.declared.part.Hands.{Hands}
 use Rattle.hm_moves.specs.declared.part.Part.{Part}
 use Rattle.hm_moves.specs.declared.part.View.{View}
 use Rattle.hm_moves.specs.declared.moving.Move.{Move}
-use Rattle.hm_moves.specs.Chain.{Index, IsPublished, AreChained, AreTrue}
+use Rattle.hm_moves.specs.Chain.{Index, IsPublished, AreChained, AreTrue, words_at}
 use Rattle.hm_moves.specs.Places.{Heap, Places, ArePlaced, AreRanked, IsOwn, LiesIn, row_of}
 use Rattle.hm_moves.specs.Acts.{word_of, finds}
 use Rattle.hm_moves.specs.After.{heap_after, is_naming, view, view_after, view_letting}
-use Rattle.hm_moves.specs.Cycles.{is_kept, is_version}
+use Rattle.hm_moves.specs.Cycles.{field_count, field_word, has_masks, is_kept, is_version}
 use Rattle.hm_moves.specs.Showing.{ShowsHeap, ShowsPart}
 use Rattle.hm_rounds.specs.State.{State}
 use Rattle.hm_rounds.specs.Rule as rounds
@@ -130,6 +130,19 @@ module _ {U : Type 0} where
   released c id place v p let_go =
       record c { views = slice_set c.views id (view_letting v place p let_go) }
 
+  -- the word at a caller's cursor names this version, by which its scan has stopped
+  pub record IsMet (s : Shape) (h : Heap) (p : Part U) (was : Known) : Type 0 where
+    pub masks : has_masks p ≡ true
+    pub at : Known
+    pub there : slice_get p.hands.own (p.cycle.scan.cursor / field_count) ≡ Some at
+    pub named : words_at s h.words at (field_word (p.cycle.scan.cursor % field_count))
+        ≡ naming_word (Some was.version)
+    pub published : IsPublished h.index was
+
+  -- what a caller's scan has met is so
+  abbrev pub HasMet : Shape → Heap → Part U → Type 0
+  HasMet s h p = (was : Known) → p.cycle.scan.met ≡ Some was → IsMet s h p was
+
   -- the rules of use again hold of a state that heap and callers show
   pub record Collects (g : Site U) (c : Core U) : Type 0 where
     pub state : State
@@ -151,8 +164,8 @@ module _ {U : Type 0} where
       pub history : IsLawful (lawful g.usage) (allowed g.usage) g.start h.history
       pub callers : AreBelow g.shape.callers h.history
 
-    -- what is kept between any two moves: no caller is carried twice, and the rules of use again
-    -- hold
+    -- what is kept between any two moves: no caller is carried twice, the rules of use again hold,
+    -- and what scans have met is so
     pub record Good (g : Site U) (c : Core U) : Type 0 where
       pub heap : HeapIsGood g c.heap
       pub seen : (j : ℕ) (v : View U) → get_elem? c.views j ≡ some v
@@ -162,6 +175,8 @@ module _ {U : Type 0} where
       pub apart : (j k m n : ℕ) (v w : View U) (p q : Part U) → Carries c.views j k v p
           → Carries c.views m n w q → p.number ≡ q.number → (j ≡ m) × (k ≡ n)
       pub collects : Collects g c
+      pub met : (j k : ℕ) (v : View U) (p : Part U) → Carries c.views j k v p
+          → HasMet g.shape c.heap p
 
   -- a seat is cut in two: it keeps `left` of its parts, and the new one has `right`
   abbrev pub split : Core U → ℕ → View U → List (Part U) → List (Part U) → Core U

@@ -5,6 +5,7 @@ pub mod Decoding
 pub mod Cycles
 pub mod Shifts
 pub mod After
+pub mod CycleSteps
 pub mod Allowed
 pub mod Showing
 pub mod Good

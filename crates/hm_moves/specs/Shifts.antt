@@ -67,6 +67,7 @@ without_masks scan = record scan {
   masks = map (λ m. None) scan.masks;
   cursor = 0;
   bare = false;
+  met = None;
 }
 
 -- a join gives up what was written into, and frees what was given up before, where that is dead
@@ -99,13 +100,15 @@ module _ {U : Type 0} where
   abbrev pub frees : Part U → Bool
   frees p = nat_lt p.cycle.ties.done p.cycle.clock.stage.done
 
-  -- the roles after a join that takes a region, a turn that does, and a reuse
+  -- the roles after a join that takes a region
   abbrev pub joined_roles : Part U → ℕ → Roles
   joined_roles p region = taking p.cycle.ties.roles (joined_role (frees p)) region
 
+  -- after a turn that takes one
   abbrev pub turned_roles : Part U → ℕ → Roles
   turned_roles p region = taking p.cycle.ties.roles turned_role region
 
+  -- and after a reuse
   abbrev pub reused_roles : Part U → Roles
   reused_roles p = record { 0 = map reused_role p.cycle.ties.roles.0 }
 
@@ -123,27 +126,31 @@ module _ {U : Type 0} where
     cursor = if is_scanning p then 0 else p.cycle.scan.cursor;
     ends = [];
     bare = false;
+    met = None;
   }
 
-  -- a step on roles leaves this of draft, hands, regions and scan
+  -- the draft after a step on roles
   abbrev pub draft_shifted : Part U → Shift → Draft
   draft_shifted p (LoadRoles of) = p.draft
   draft_shifted p (Join region roles) = fresh_draft region
   draft_shifted p (Turn region roles) = fresh_draft region
   draft_shifted p (Reuse roles) = p.draft
 
+  -- what the caller lists as left behind after it: a join leaves what was its own
   abbrev pub left_shifted : Part U → Shift → List Known
   left_shifted p (LoadRoles of) = p.hands.left
   left_shifted p (Join region roles) = left_after p ++ p.hands.own
   left_shifted p (Turn region roles) = p.hands.left
   left_shifted p (Reuse roles) = []
 
+  -- and as its own of To and Old
   abbrev pub own_shifted : Part U → Shift → List Known
   own_shifted p (LoadRoles of) = p.hands.own
   own_shifted p (Join region roles) = []
   own_shifted p (Turn region roles) = p.hands.own
   own_shifted p (Reuse roles) = p.hands.own
 
+  -- its regions, with the stage that it joined in
   abbrev pub ties_shifted : Part U → Shift → Ties
   ties_shifted p (LoadRoles of) = p.cycle.ties
   ties_shifted p (Join region roles) = record {
@@ -155,6 +162,7 @@ module _ {U : Type 0} where
   ties_shifted p (Turn region roles) = record p.cycle.ties { roles = roles }
   ties_shifted p (Reuse roles) = record p.cycle.ties { roles = roles; joined = false }
 
+  -- and its scan: a join and a reuse drop the masks
   abbrev pub scan_shifted : Part U → Shift → ℕ → Scan
   scan_shifted p (LoadRoles of) x = scan_loaded p of x
   scan_shifted p (Join region roles) x = without_masks p.cycle.scan
@@ -168,13 +176,14 @@ module _ {U : Type 0} where
   draft_readied p (Ticks t) = p.draft
   draft_readied p (Shifts f) = draft_shifted p f
 
-  -- what the caller lists as left behind, and as its own of To and Old
+  -- what the caller lists as left behind
   abbrev pub left_readied : Part U → Act → List Known
   left_readied p (Looks l) = p.hands.left
   left_readied p (Builds b) = p.hands.left
   left_readied p (Ticks t) = p.hands.left
   left_readied p (Shifts f) = left_shifted p f
 
+  -- and as its own of To and Old
   abbrev pub own_readied : Part U → Act → List Known
   own_readied p (Looks l) = p.hands.own
   own_readied p (Builds b) = p.hands.own

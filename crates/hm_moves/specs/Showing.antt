@@ -1,5 +1,5 @@
--- Which state of the rules of use again a heap and its callers show. The state's numbers of versions,
--- objects and stages begin with 1, so that 0 is none there.
+-- Which state of the rules of use again a heap and its callers show. The state's numbers of
+-- versions, objects and stages begin with 1, so that 0 is none there.
 use Rattle.std.specs.Prelude.{◌≡◌, ℕ, suc, ◌+◌, ◌-◌, ◌*◌, ◌/◌, ◌==◌, ◌&&◌, ◌<◌, ◌≤◌, nat_lt, true, false, length, slice_get, slice_index, slice_index_or, Option, Some, None, IsSome, is_some, Contains, if◌then◌else◌}
 use Rattle.std.specs.List.{list_any}
 use Rattle.hm_shape.specs.declared.reply.Reply.{Reply}
@@ -31,19 +31,21 @@ use Rattle.hm_rounds.specs.Phases as rounds
 use Rattle.hm_rounds.specs.State as state
 use Rattle.hm_rounds.specs.State.{State}
 
--- phases, roles and kinds of reply go by the same names
+-- a phase is shown by the one of its name
 abbrev pub phase_shown : Phase → rounds.Phase
 phase_shown Idle = rounds.Idle
 phase_shown Join = rounds.Join
 phase_shown First = rounds.First
 phase_shown Second = rounds.Second
 
+-- a role is shown by the one of its name
 abbrev pub role_shown : Role → rounds.Role
 role_shown Free = rounds.Free
 role_shown To = rounds.To
 role_shown Old = rounds.Old
 role_shown From = rounds.From
 
+-- and so is a kind of reply
 abbrev pub reply_shown : ReplyKind → rounds.Reply
 reply_shown Joined = rounds.Joined
 reply_shown Clean = rounds.Clean

@@ -55,6 +55,7 @@
 //! - *history*: it is lawful, each seat has seen a beginning of it, and each caller's entries are its calls there;
 //! - *draft*: the words that a caller has written are in the Table, and name versions that it holds;
 //! - *hands*: what a caller holds is published, and it lists just the published versions of its own regions, each once;
+//! - *met*: where a caller's scan has stopped, the word at its cursor names the version that it found there;
 //! - *collects*: words, places and callers show a state of the rules of use again, which hm_rounds has over all callers
 //!   at once, one function a fact (`specs/Showing.antt`). No definition of a move mentions that state: each move is one or
 //!   two steps of it, and so the argument of hm_rounds never goes through seats.

@@ -103,6 +103,8 @@ pub struct Scan {
     pub ends: LinkedList<End>,
     /// Whether it holds nothing of from-space, nor do its own versions name any.
     pub bare: bool,
+    /// The version of from-space that the word at its cursor names, where its scan has stopped there.
+    pub met: Option<Known>,
 }
 
 /// What a caller knows of the collector's cycle.

@@ -82,7 +82,7 @@ module _ {U : Type 0} (lawful : U → PlainStore → Type 0) (allowed : U → Pl
 
         untended : IsUntended (sight_of s) (sight_of u)
         untended = subst (λ (c : Sight U). IsUntended c (sight_of u)) d.same
-            (untended_kept lawful allowed t u act 0 took)
+            (untended_kept lawful allowed t u act 0 took tt)
 
         named : (f : Facts U) → Settles u into made f → SetsRoot (sight_of s) (sight_of f) into.0 (Some n)
         named f settles =

@@ -16,7 +16,7 @@ use Rattle.hm_moves.specs.Places.{IsFit}
 use Rattle.hm_moves.specs.Acts.{entry_of, publishes, field_look}
 use Rattle.hm_cells.specs.Facts.{Facts, Made, IsLookable, IsSound, IsHeldAt, known_at, place_name, sight_of, with_hand, with_root, without_first}
 use Rattle.hm_cells.specs.Calls.{Takes}
-use Rattle.hm_cells.specs.Shows.{IsOfCells}
+use Rattle.hm_moves.proofs.Heaps.{IsWork}
 use Rattle.hm_cells.proofs.Fields.{rank_most, rank_word}
 use Rattle.hm_cells.proofs.Stepped.{kept_held, kept_stays, held_lookable, known_fit, number_look}
 use Rattle.hm_ops.specs.Resting.{IsRooted, IsRootedBeside, Keeps, Works}
@@ -53,7 +53,7 @@ module _ {U : Type 0} (lawful : U → PlainStore → Type 0) (allowed : U → Pl
   module _ (s t : Facts U) (v : Version) (x : ℕ) (k : Keeps lawful allowed s m)
       (after : IsSound lawful allowed t) where
     -- a load that finds no version
-    pub reads_plain : (act : Act) → IsOfCells act → Takes lawful allowed s act x t → IsRooted s v → entry_of s.part.number
+    pub reads_plain : (act : Act) → IsWork act → Takes lawful allowed s act x t → IsRooted s v → entry_of s.part.number
         act x ≡ None
         → publishes act x ≡ None
         → ((took : Takes lawful allowed s act x t) → took.found ≡ None) → Reads lawful allowed m s v t

@@ -18,7 +18,7 @@ use Rattle.hm_moves.specs.Allowed.{HasRoom}
 use Rattle.hm_moves.specs.Told.{IsLink}
 use Rattle.hm_cells.specs.Facts.{most_cycles, Facts, Made, IsSound, IsHeldAt, IsLookable, known_at, names_at, sight_of}
 use Rattle.hm_cells.specs.declared.want.Want.{Want}
-use Rattle.hm_cells.specs.Shows.{IsOfCells}
+use Rattle.hm_moves.proofs.Heaps.{IsWork}
 use Rattle.hm_cells.specs.Calls as call
 use Rattle.hm_cells.specs.Calls.{Takes, Tells, stored}
 use Rattle.hm_cells.proofs.Found.{same_version}
@@ -95,7 +95,7 @@ module _ {U : Type 0} (lawful : U → PlainStore → Type 0) (allowed : U → Pl
         record {
           tells = subst (λ (o : Option Entry). Tells lawful allowed o (sight_of s) (sight_of t)) (where_none want)
               took.tells;
-          untended = untended_kept lawful allowed s t act 0 took;
+          untended = untended_kept lawful allowed s t act 0 took tt;
           same = λ none. same_sight lawful allowed s t act 0 took tt (where_none want ∙ none) refl;
           names = took.names;
           room = room_kept lawful allowed s t act 0 took tt refl;
@@ -111,7 +111,7 @@ module _ {U : Type 0} (lawful : U → PlainStore → Type 0) (allowed : U → Pl
         ap (λ (l : List (Option Name)). name_at l r.0) names ∙ root_named s r.0 v at (placed_held s r.0 v k at)
 
     -- a step that found another version behind this one goes on to it
-    module _ (act : Act) (work : IsOfCells act) (next : Version) (took : Takes lawful allowed s act (next.0 + 1) t)
+    module _ (act : Act) (work : IsWork act) (next : Version) (took : Takes lawful allowed s act (next.0 + 1) t)
         (what : IsLink (known_at s v) (next.0 + 1) took.found)
         (no_entry : entry_of s.part.number act (next.0 + 1) ≡ None)
         (nothing : publishes act (next.0 + 1) ≡ None) where
@@ -186,7 +186,7 @@ module _ {U : Type 0} (lawful : U → PlainStore → Type 0) (allowed : U → Pl
           hand = taken_hand lawful allowed m t r made fresh has;
           then = λ u settles. subst (Ends lawful allowed m s entry 1) (sym settles.pass) record {
             entry = subst (λ (c : Sight U). Enters lawful allowed (sight_of s) c entry) (sym same) took.tells;
-            untended = subst (IsUntended (sight_of s)) (sym same) (untended_kept lawful allowed s t act 0 took);
+            untended = subst (IsUntended (sight_of s)) (sym same) (untended_kept lawful allowed s t act 0 took tt);
             names = ap (λ (c : Sight U). c.roots) same ∙ took.names;
             room = omega arith;
             keeps = settled_keeps lawful allowed m t r made fresh has;

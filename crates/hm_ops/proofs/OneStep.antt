@@ -11,7 +11,7 @@ use Rattle.hm_moves.specs.After.{count_of, seen_after}
 use Rattle.hm_moves.specs.Acts.{entry_of, listed, publishes}
 use Rattle.hm_cells.specs.Facts.{Facts, Made, Fits, IsSound, heap_of, room_of, sight_of}
 use Rattle.hm_cells.specs.Calls.{Takes}
-use Rattle.hm_cells.specs.Shows.{IsOfCells}
+use Rattle.hm_moves.proofs.Heaps.{IsWork}
 use Rattle.hm_cells.proofs.Stepped.{held_few}
 use Rattle.hm_cells.proofs.Working.{still_readied}
 use Rattle.hm_ops.specs.Resting.{Keeps, Works}
@@ -93,7 +93,7 @@ module _ {U : Type 0} (lawful : U → PlainStore → Type 0) (allowed : U → Pl
         (hand_kept none nothing ∙ k.resting.rest.hand)
 
     -- one that publishes nothing leaves the room
-    used_kept : IsOfCells act → publishes act x ≡ None → t.part.draft.used ≡ s.part.draft.used
+    used_kept : IsWork act → publishes act x ≡ None → t.part.draft.used ≡ s.part.draft.used
     used_kept work nothing =
         let same : t.part.draft.used ≡ s.part.draft.used + count_of (publishes act x) =
         ap (λ (f : Facts U). f.part.draft.used) took.is
@@ -102,20 +102,25 @@ module _ {U : Type 0} (lawful : U → PlainStore → Type 0) (allowed : U → Pl
         omega arith
 
     -- so its room stays
-    pub room_kept : IsOfCells act → publishes act x ≡ None → room_of t.part ≡ room_of s.part
+    pub room_kept : IsWork act → publishes act x ≡ None → room_of t.part ≡ room_of s.part
     room_kept work nothing = λ i. (site_kept i).shape.versions - used_kept work nothing i
 
-    -- no move tends
-    pub untended_kept : IsUntended (sight_of s) (sight_of t)
-    untended_kept = record {
+    -- by a look or a build the stage is not moved
+    moves_kept : IsWork act → t.part.cycle.clock.moves ≡ s.part.cycle.clock.moves
+    moves_kept work = ap (λ (f : Facts U). f.part.cycle.clock.moves) took.is
+        ∙ ap (λ (q : Part U). q.cycle.clock.moves) (still_readied s.part act work x)
+
+    -- nor does it tend
+    pub untended_kept : IsWork act → IsUntended (sight_of s) (sight_of t)
+    untended_kept work = record {
       copying = refl;
       kept = refl;
-      moves = ap (λ (f : Facts U). f.moves) took.is;
+      moves = moves_kept work;
       tends = ap (λ (f : Facts U). f.tends) took.is;
     }
 
     -- and one that makes no entry either is not seen
-    pub same_sight : IsOfCells act → entry_of s.part.number act x ≡ None → publishes act x ≡ None
+    pub same_sight : IsWork act → entry_of s.part.number act x ≡ None → publishes act x ≡ None
         → sight_of t ≡ sight_of s
     same_sight work no_entry nothing =
         let seen : t.seen ≡ s.seen = ap (λ (f : Facts U). f.seen) took.is
@@ -133,6 +138,6 @@ module _ {U : Type 0} (lawful : U → PlainStore → Type 0) (allowed : U → Pl
           room = room_kept work nothing i;
           used = used_kept work nothing i;
           span = (site_kept i).shape.versions;
-          moves = (took.is i).moves;
+          moves = moves_kept work i;
           tends = (took.is i).tends;
         }

@@ -71,8 +71,10 @@ module _ {U : Type 0} (lawful : U → PlainStore → Type 0) (allowed : U → Pl
         };
         sound = record {
           sure = sound.sure;
-          count = sound.count;
-          places = sound.places;
+          old = sound.old;
+          listed = sound.listed;
+          cleared = sound.cleared;
+          scanned = sound.scanned;
           apart = sound.apart;
           wide = length-set s.roots r.0 v ∙ sound.wide;
           rooted = All-set (λ (o : Option Version). IfSome o (IsHeldAt s)) s.roots r.0 v held sound.rooted;

@@ -164,10 +164,11 @@ first_full settings e n heap files count m site before back came all ends worked
     subst (λ (w : Worked). IfStalled w (λ place. IsUsedUp (sight_of s.0))) st.worked work.up in
     let noted : slice_get e.counts k ≡ Some (counts_of s.0) =
     subst (λ (q : ℕ). slice_get e.counts q ≡ Some (counts_of s.0)) (all.numbers k s.0 s.1) end.counts in
-    let its : counts_of s.0 ≡ record { used = at.used; free = at.free; joined = false } =
-    λ i. record { used = sym up.used_is i; free = sym up.free_is i; joined = false } in
     record {
-      counts = noted ∙ ap (λ (x : Counts). Some x) its;
+      counts = counts_of s.0;
+      here = noted;
+      used_is = sym up.used_is;
+      free_is = sym up.free_is;
       before = λ i orders first is.
           let c = there came i (omega (arith, first, low)) in
           let part = to.parts i orders c.0 is c.1 in

@@ -3,12 +3,14 @@ use Rattle.std.proofs.Common.{◌≡◌, ℕ, ◌<◌, List, [], ◌∷◌, ◌+
 use Rattle.std.specs.List.{slice_get}
 use Rattle.std.specs.Option.{option_map}
 use Rattle.std.proofs.lemmas.List.{drop_all, length-append, length-map, take_all}
-use Rattle.std.proofs.lemmas.Option.{slice_get_within, slice_get-map, slice_get-get_or}
+use Rattle.std.proofs.lemmas.Option.{get_or_from_slice_get, slice_get_within, slice_get-map, slice_get-get_or}
 use Rattle.hm_orders.specs.declared.order.Order.{Order}
 use Rattle.hm_model.specs.Sight.{IsSameCaller}
 use Rattle.hm_book.specs.declared.limits.Limits.{Limits}
 use Rattle.hm_cellbook.specs.declared.usage.BookUsage.{BookUsage}
-use Rattle.hm_cells.specs.Facts.{Facts, sight_of}
+use Rattle.hm_cells.specs.Closing.{AreAll}
+use Rattle.hm_cells.specs.Facts.{Facts, IsAtRest, Made, sight_of}
+use Rattle.hm_ops.specs.Resting.{IsResting}
 use Rattle.hm_heap.specs.Mutators.{AreSameCallers}
 use Rattle.hm_replay.specs.declared.conclusion.Came.{Came}
 use Rattle.hm_replay.specs.Working.{AreJobs, AreReady, HaveWorked, IsAtWork, IsReady, IsUnder, Working, Works}
@@ -34,6 +36,18 @@ pub next_ready : (limits : Limits) (passes : List (Facts BookUsage)) (files : Li
 next_ready limits passes files ready before s rest all orders is =
     ready.each (length before) s orders
     (ap (λ (l : List (Facts BookUsage)). slice_get l (length before)) all ∙ at_seam before s rest) is
+
+-- and at rest, of that heap
+pub next_rests : (m : Made BookUsage) (passes : List (Facts BookUsage)) → AreAll m passes
+    → All IsAtRest passes → (before : List (Facts BookUsage)) (s : Facts BookUsage)
+    → (rest : List (Facts BookUsage)) → passes ≡ before ++ s ∷ rest → IsResting s m
+next_rests m passes all rests before s rest is =
+    let there : slice_get passes (length before) ≡ Some s =
+    ap (λ (l : List (Facts BookUsage)). slice_get l (length before)) is ∙ at_seam before s rest in record {
+      fits = all.fits (length before) s there;
+      rest = subst IsAtRest (get_or_from_slice_get passes (length before) s s there)
+          (rests (length before) s (slice_get_within passes (length before) s there));
+    }
 
 -- with the job of the next pass, jobs have each a pass and the orders of its file
 pub jobs_more : (passes : List (Facts BookUsage)) (files : List (List Order)) (jobs : List Working)

@@ -10,6 +10,7 @@ use Rattle.hm_book.specs.Run.{report_of, rows_by_file}
 use Rattle.hm_agreement.specs.Spelled.{spelled}
 use Rattle.hm_agreement.specs.Told.{told_on}
 use Rattle.hm_cellbook.specs.declared.usage.BookUsage.{BookUsage}
+use Rattle.hm_cells.specs.declared.closing.Counts.{Counts}
 use Rattle.hm_cells.specs.Closing.{Ended}
 use Rattle.hm_words.specs.declared.asked.Settings.{Settings}
 use Rattle.hm_desk.specs.declared.desk.Worked.{Worked}
@@ -85,8 +86,10 @@ pub record HasStalled (came : List Came) (at : FullAt) : Type 0 where
 -- closed cells have these two counts for the named caller, and the history spells all orders of the
 -- files before its own
 pub record IsFirstFull (files : List (List Order)) (e : Ended BookUsage) (at : FullAt) : Type 0 where
-  pub counts : slice_get e.counts at.caller
-      ≡ Some (record { used = at.used; free = at.free; joined = false })
+  pub counts : Counts
+  pub here : slice_get e.counts at.caller ≡ Some counts
+  pub used_is : counts.used ≡ at.used
+  pub free_is : counts.free ≡ at.free
   pub before : (k : ℕ) (orders : List Order) → k < at.caller → slice_get files k ≡ Some orders
       → part_of (k + 1) (spelled e.history) ≡ orders
 

@@ -3,7 +3,7 @@ use Rattle.std.proofs.Common.{ℕ, arith}
 use Rattle.std.proofs.lemmas.Bool.Decides.{nat_tests}
 use Rattle.hm_rounds.specs.State.{State}
 use Rattle.hm_rounds.specs.Runs.{IsOpening}
-use Rattle.hm_rounds.specs.Rule.{Counted, Timely, Tied, Awaited, Masked, Passed, Ended, TrulyBare, Safe, Drafted, Chained, Cleaned, Guarded, Stored, FreedInTime, Filled, Good}
+use Rattle.hm_rounds.specs.Rule.{Answered, Counted, Timely, Tied, Awaited, Masked, Passed, Ended, TrulyBare, Safe, Drafted, Chained, Cleaned, Guarded, Stored, FreedInTime, Filled, Good}
 
 module _ (s : State) (o : IsOpening s) where
   opening_counted : Counted s
@@ -11,6 +11,9 @@ module _ (s : State) (o : IsOpening s) where
 
   opening_timely : (i : ℕ) → Timely s i
   opening_timely i = grind (arith, nat_tests)
+
+  opening_answered : (i : ℕ) → Answered s i
+  opening_answered i = grind (arith, nat_tests)
 
   opening_tied : (i : ℕ) → Tied s i
   opening_tied i = grind (arith, nat_tests)
@@ -59,6 +62,7 @@ module _ (s : State) (o : IsOpening s) where
   opening_good = record {
     counted = opening_counted;
     timely = opening_timely;
+    answered = opening_answered;
     tied = opening_tied;
     awaited = opening_awaited;
     masked = opening_masked;

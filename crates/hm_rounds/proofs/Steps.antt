@@ -5,7 +5,7 @@ use Rattle.hm_rounds.specs.Steps.{Tick, Look, Build, Shift, Step, Ticks, Looks, 
 use Rattle.hm_rounds.specs.After.{after}
 use Rattle.hm_rounds.specs.Runs.{Taken, MayTake, run, MayRun}
 use Rattle.hm_rounds.specs.Rule.{Passed, Good}
-use Rattle.hm_rounds.proofs.Timing.{tick_counted, tick_timely}
+use Rattle.hm_rounds.proofs.Timing.{tick_answered, tick_counted, tick_timely}
 use Rattle.hm_rounds.proofs.Joining.{tick_tied, shift_tied}
 use Rattle.hm_rounds.proofs.Awaiting.{tick_awaited, shift_awaited}
 use Rattle.hm_rounds.proofs.Masking.{tick_masked, shift_masked}
@@ -31,6 +31,7 @@ module _ (s : State) (i : ℕ) (b : Bool) (g : Good s) where
       (g.passed m) in record {
         counted = tick_counted s i b t may (g.timely i) g.counted;
         timely = λ m. tick_timely s i b t m may g.timely (g.timely i) (g.timely m);
+        answered = λ m. tick_answered s i b t m may g.timely g.answered;
         tied = λ m. tick_tied s i b t m may (g.timely i) (g.timely m) (g.tied i) (g.tied m);
         awaited = λ m. tick_awaited s i b t m may (g.timely i) (g.timely m) g.tied (g.tied m)
             g.timely (g.awaited m);
@@ -63,6 +64,7 @@ module _ (s : State) (i : ℕ) (b : Bool) (g : Good s) where
       λ m. look_passed s i b l m may is g.safe (g.passed m) in record {
         counted = g.counted;
         timely = g.timely;
+        answered = g.answered;
         tied = g.tied;
         awaited = g.awaited;
         masked = g.masked;
@@ -89,6 +91,7 @@ module _ (s : State) (i : ℕ) (b : Bool) (g : Good s) where
       λ m. build_passed s i b u m may g.safe is (g.masked m) (g.passed m) in record {
         counted = g.counted;
         timely = g.timely;
+        answered = g.answered;
         tied = g.tied;
         awaited = g.awaited;
         masked = g.masked;
@@ -119,6 +122,7 @@ module _ (s : State) (i : ℕ) (b : Bool) (g : Good s) where
       (g.timely i) (g.passed m) in record {
         counted = g.counted;
         timely = g.timely;
+        answered = g.answered;
         tied = λ m. shift_tied s i b f m may (g.timely i) (g.timely m) (g.tied m);
         awaited = λ m. shift_awaited s i b f m may is (g.timely i) (g.tied i) (g.awaited m);
         masked = λ m. shift_masked s i b f m may (g.timely m) is (g.timely i) (g.tied i)

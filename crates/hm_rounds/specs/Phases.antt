@@ -13,6 +13,19 @@ pub data Role : Type 0 where
 pub data Reply : Type 0 where
   Joined Clean Dirty : Reply
 
+-- a caller may reply so to a phase
+abbrev pub is_answer : Phase → Reply → Bool
+is_answer Idle reply = false
+is_answer Join Joined = true
+is_answer Join Clean = false
+is_answer Join Dirty = false
+is_answer First Joined = false
+is_answer First Clean = true
+is_answer First Dirty = false
+is_answer Second Joined = false
+is_answer Second Clean = true
+is_answer Second Dirty = true
+
 -- a phase has a place in the cycle
 abbrev pub phase_place : Phase → ℕ
 phase_place Idle = 0

@@ -2,7 +2,7 @@
 use Rattle.std.specs.Prelude.{◌≡◌, ℕ, ◌<◌, true}
 use Rattle.hm_rounds.specs.State.{State}
 use Rattle.hm_rounds.specs.Views.{masks_count, Bare}
-use Rattle.hm_rounds.specs.Stages.{IsCounted, KeepsTime, AreTied, IsAwaited, AreMasks}
+use Rattle.hm_rounds.specs.Stages.{AreAnswers, AreMasks, AreTied, IsAwaited, IsCounted, KeepsTime}
 use Rattle.hm_rounds.specs.Scans.{HasPassed, HasEnds, HoldsClean, IsWarned, IsGuarded}
 use Rattle.hm_rounds.specs.Chains.{IsSafe, HasDraft, AreChained, ShowStore, AreFreedInTime, AreFilled}
 
@@ -13,6 +13,10 @@ Counted state = IsCounted state.clock
 -- what a caller knows of the stage is not ahead of it
 abbrev pub Timely : State → ℕ → Type 0
 Timely state caller = KeepsTime state.shape state.clock caller
+
+-- replies to the stage that a caller has seen are of the kinds that answer it
+abbrev pub Answered : State → ℕ → Type 0
+Answered state caller = AreAnswers state.clock caller
 
 -- a caller is tied to the Join that it joined in
 abbrev pub Tied : State → ℕ → Type 0
@@ -92,6 +96,7 @@ pub record Good (state : State) : Type 0 where
   -- the stage, and what each caller has seen, replied, joined and loaded
   pub counted : Counted state
   pub timely : (caller : ℕ) → Timely state caller
+  pub answered : (caller : ℕ) → Answered state caller
   pub tied : (caller : ℕ) → Tied state caller
   pub awaited : (caller : ℕ) → Awaited state caller
   pub masked : (caller : ℕ) → Masked state caller

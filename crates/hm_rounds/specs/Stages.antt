@@ -1,6 +1,6 @@
 -- What every moment keeps of the stage, of joins and of masks.
 use Rattle.std.specs.Prelude.{◌≡◌, ◌⊎◌, ℕ, ◌+◌, ◌*◌, ◌<◌, ◌≤◌, true, false}
-use Rattle.hm_rounds.specs.Phases.{Join, First, Role, From, Joined, Clean, phase_place, is_round, is_from}
+use Rattle.hm_rounds.specs.Phases.{Join, First, Role, From, Joined, Clean, is_answer, is_from, is_round, phase_place}
 use Rattle.hm_rounds.specs.State.{Shape, Clock, Ties, Masks}
 use Rattle.hm_rounds.specs.Views.{is_scanning, masks_count, AllMasks}
 
@@ -29,6 +29,17 @@ pub record KeepsTime (shape : Shape) (clock : Clock) (caller : ℕ) : Type 0 whe
   pub stands : (other : ℕ) → clock.known caller other ≡ clock.number
       → (clock.replied other ≡ clock.number)
       × (clock.reply other ≡ clock.known_reply caller other)
+
+-- what is known of the stage that a caller has seen: whoever has seen it saw its phase, and replies
+-- to it, those that the caller has loaded too, are of the kinds that answer that
+pub record AreAnswers (clock : Clock) (caller : ℕ) : Type 0 where
+  pub phase : (other : ℕ) → clock.seen other ≡ clock.seen caller
+      → clock.seen_phase other ≡ clock.seen_phase caller
+  pub answer : (other : ℕ) → 0 < clock.replied other → clock.replied other ≡ clock.seen caller
+      → is_answer (clock.seen_phase caller) (clock.reply other) ≡ true
+  pub known : (other : ℕ) → 0 < clock.known caller other
+      → clock.known caller other ≡ clock.seen caller
+      → is_answer (clock.seen_phase caller) (clock.known_reply caller other) ≡ true
 
 -- when a caller last joined
 pub record AreTied (shape : Shape) (clock : Clock) (ties : Ties) (masks : Masks) (caller : ℕ)

@@ -1,6 +1,6 @@
 //! The laws of the rounds: the rule that every moment keeps, and what follows from it.
 ghost use Rattle.std.specs.Prelude.{◌≡◌, ◌≢◌, ◌⊎◌, ◌↔◌, ℕ, ◌+◌, ◌*◌, ◌<◌, ◌≤◌, Bool, true, false, List};
-ghost use Rattle.hm_rounds.specs.Phases.{First, Second, Free, From, phase_place, is_round, is_from};
+ghost use Rattle.hm_rounds.specs.Phases.{First, Second, Free, From, is_answer, is_from, is_round, phase_place};
 ghost use Rattle.hm_rounds.specs.State.{State};
 ghost use Rattle.hm_rounds.specs.Views.{masks_count, title, Live, IsDead};
 ghost use Rattle.hm_rounds.specs.Steps.{Step};
@@ -101,7 +101,7 @@ pub fn a_cycle_ends_over_clean_replies()
 {}
 
 /// Nobody replies ahead of the stage, and nobody's replies go back. In a round each caller has replied to the present
-/// stage or to the one before.
+/// stage or to the one before. A reply to the stage that a caller has seen answers its phase, as the caller knows it.
 pub fn replies_keep_up_with_the_stage()
     ensures ahead { (state : State) (caller : ℕ) → IsMoment state
         → state.clock.replied caller ≤ state.clock.number }
@@ -111,6 +111,10 @@ pub fn replies_keep_up_with_the_stage()
     ensures recent { (state : State) (caller : ℕ) → IsMoment state
         → is_round state.clock.phase ≡ true → caller < state.shape.callers
         → state.clock.number ≤ state.clock.replied caller + 1 }
+    ensures answered { (state : State) (caller other : ℕ) → IsMoment state
+        → 0 < state.clock.known caller other
+        → state.clock.known caller other ≡ state.clock.seen caller
+        → is_answer (state.clock.seen_phase caller) (state.clock.known_reply caller other) ≡ true }
 {}
 
 /// In First and Second every caller has joined in this cycle, and each mask that a caller has is the owner's present

@@ -1,9 +1,9 @@
-use Rattle.hm_cells.proofs.Words.{field_look, known_at, move_by, facts_of, Looks}
+use Rattle.hm_cells.proofs.Words.{facts_of}
+use Rattle.hm_cells.specs.Plans.{planned}
 use Rattle.hm_cells.proofs.steps.load_field.Given as goal
 
 abbrev pub ghosts-load : goal.ghosts-load
 ghosts-load g a = record {
-  picked = move_by (facts_of a.seat.now a._grip.now)
-      (Looks (field_look (known_at (facts_of a.seat.now a._grip.now) a.v) a.i));
+  picked = planned (facts_of a.seat.now a._grip.now) a._plan.now;
   place = 0;
 }

@@ -5,5 +5,6 @@ use Rattle.hm_moves.proofs.laws.what_is_reached_is_not_given_out_again.Goals as 
 pub returns : goal.returns
 returns g c = record {
   given = λ site core id place v p m w k good at may reached is.
-      given_again g.U.Usage.lawful g.U.Usage.allowed site core id place v p m w k good at may reached is;
+      given_again g.U.Usage.lawful g.U.Usage.allowed site core id place v p m w k good at may
+      reached is;
 }

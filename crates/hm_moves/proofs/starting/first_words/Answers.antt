@@ -12,7 +12,8 @@ returns-clause-words c =
     let laid : c.lay_all.new.words.items ≡ laid_words s start =
     c.in_ok-lay_all.ensures.laid
     ∙ ap (λ (l : List ℕ). l ++ flat_map known_words (all_known start)) c.in_ok-words.ensures in
-    let wide : vec_len c.lay_all.new.words ≡ length (laid_words s start) = search rules ∙ ap length laid in
+    let wide : vec_len c.lay_all.new.words ≡ length (laid_words s start) = search rules
+    ∙ ap length laid in
     let count : c.word_count.result ≡ word_count s = c.word_count.ensures in
     c.in_ok-resize.ensures.items
     ∙ ((λ i. take (count i) (laid i) ++ replicate (count i - wide i) 0)

@@ -9,7 +9,8 @@ returns-clause-laid c =
     let before : List ℕ = c.args.words.now.items in
     let after : List ℕ = c.lay_side-4.new.words.items in
     let four : length c.args.start.sides ≡ 4 = search rules in
-    let words : List ℕ = c.in_ok-lay_side.field-0 ∷ c.in_ok-lay_side-2.field-0 ∷ c.in_ok-lay_side-3.field-0
+    let words : List ℕ = c.in_ok-lay_side.field-0 ∷ c.in_ok-lay_side-2.field-0 ∷
+    c.in_ok-lay_side-3.field-0
     ∷ c.in_ok-lay_side-4.field-0 ∷ [] in
     let sides : AreLaid before 0 c.args.start.sides words after =
     subst (λ (sides : List (Option Numbers)). AreLaid before 0 sides words after)

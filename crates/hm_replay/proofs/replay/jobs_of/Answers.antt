@@ -2,7 +2,7 @@
 use Rattle.std.proofs.Common.{rules, ◌≡◌, ◌∙◌, ◌<◌, ◌++◌, ◌∷◌, [], length, map, sym, ap, subst}
 use Rattle.std.proofs.lemmas.List.{append_assoc}
 use Rattle.hm_replay.specs.Working.{AreJobs}
-use Rattle.hm_replay.proofs.Jobs.{count_more, jobs_more, next_ready, next_within, own_orders}
+use Rattle.hm_replay.proofs.Jobs.{count_more, jobs_more, next_ready, next_rests, next_within, own_orders}
 use Rattle.hm_replay.proofs.replay.jobs_of.Goals as goal
 
 pub new-requires-clause-ready : goal.new-requires-clause-ready
@@ -36,3 +36,9 @@ loop-pass-preserved c =
           (own_orders c.args.files.now _ c.len.result c.index-files-len.result _ place within c.index-files-len.is
           (c.new.ensures.orders ∙ c.as_slice-orders.ensures.value)));
     }
+
+pub new-requires-clause-rests : goal.new-requires-clause-rests
+new-requires-clause-rests c =
+    next_rests c.args.heap.now c.args.passes.items c.requires.all c.requires.rest c.loop-pass.yielded
+    c.in-Some.pass c.next.new.self.rest.items
+    (c.loop-pass.invariant.all ∙ ap (λ l. c.loop-pass.yielded ++ l) c.in-Some.ensures.steps.0)

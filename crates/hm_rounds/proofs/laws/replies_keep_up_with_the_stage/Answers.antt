@@ -7,3 +7,7 @@ returns-clause-ahead c = λ s i moment. replied_now s i (moment_good s moment)
 
 pub returns-clause-recent : goal.returns-clause-recent
 returns-clause-recent c = λ s i moment round lt. ((moment_good s moment).timely i).recent lt round
+
+pub returns-clause-answered : goal.returns-clause-answered
+returns-clause-answered c = λ s i other moment some e.
+    ((moment_good s moment).answered i).known other some e

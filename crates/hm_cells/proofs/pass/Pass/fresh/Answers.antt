@@ -1,5 +1,5 @@
-use Rattle.std.proofs.Common.{◌-◌, refl, sym, ap, arith}
-use Rattle.hm_cells.proofs.Words.{Version, site_of}
+use Rattle.std.proofs.Common.{◌-◌, refl, arith}
+use Rattle.hm_cells.proofs.Words.{site_of}
 use Rattle.hm_cells.proofs.Opening.{sure_first}
 use Rattle.hm_cells.proofs.Fresh.{first_grip, fresh_is, seated_fresh}
 use Rattle.hm_cells.proofs.pass.Pass.fresh.Goals as goal
@@ -14,7 +14,7 @@ invariant_of-result g c =
     seated_fresh g.U.Usage.lawful g.U.Usage.allowed site c.args.seat.table_id c.args.number w.1.sized
     (sure_first g.U.Usage.lawful g.U.Usage.allowed site w.0 w.1 w.1.sized c.requires.objects c.requires.lawful
     c.args.number c.requires.number) c.args.seat c.set.new.self c.requires.seat refl first
-    c.at.result.0 c.args.used (ap (λ (v : Version). v.0) (sym c.at.ensures.there.number)) c.requires.used
+    c.fresh.result c.args.used c.fresh.ensures c.requires.used
 
 pub returns : goal.returns
 returns g c =

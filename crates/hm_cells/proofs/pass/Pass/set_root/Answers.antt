@@ -1,6 +1,6 @@
-use Rattle.std.proofs.Common.{◌<◌, length, sym, subst, arith}
-use Rattle.hm_cells.proofs.Words.{SetsRoot, Facts, place_name, sight_of, Gripped, facts_of}
-use Rattle.hm_cells.proofs.Rooted.{sets_root}
+use Rattle.std.proofs.Common.{◌<◌, length, Some, sym, subst, arith}
+use Rattle.hm_cells.proofs.Words.{IsAmong, SetsRoot, Facts, place_name, sight_of, Gripped, facts_of}
+use Rattle.hm_cells.proofs.Rooted.{seated_root, sets_root}
 use Rattle.hm_cells.proofs.pass.Pass.set_root.Goals as goal
 
 pub returns-clause-names : goal.returns-clause-names
@@ -19,3 +19,11 @@ returns-clause-names g c =
     (facts_of i.seat x)) c.args.r.0
     (place_name (facts_of i.seat i.grip).part.hands.held (Rattle.std.specs.Prelude.Some c.args.v)))
     (sym c.set.ensures) here)
+
+pub invariant_of-self : goal.invariant_of-self
+invariant_of-self g c =
+    let i = c.self.inside in
+    seated_root g.U.Usage.lawful g.U.Usage.allowed i.seat i.grip c.set.new.self i.own c.self.invariant
+    c.args.r.0 (Some c.args.v) c.set.ensures
+    (subst (λ (o : Facts g.row.U.Denot). IsAmong o.part.hands.held c.args.v) (sym c.self.view_is)
+    c.requires.held)

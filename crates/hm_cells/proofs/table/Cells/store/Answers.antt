@@ -1,5 +1,6 @@
-use Rattle.std.proofs.Common.{◌≡◌, ◌<◌, ℕ, arith, sym, ap, ◌∙◌, subst}
-use Rattle.hm_cells.proofs.Words.{Shape, word_at, Made, site_of, IsReady, Stores}
+use Rattle.std.proofs.Common.{◌≡◌, ◌<◌, ℕ, sym, ap, ◌∙◌, subst}
+use Rattle.hm_shape.specs.Words.{word_count}
+use Rattle.hm_cells.proofs.Words.{Made, site_of}
 use Rattle.hm_cells.proofs.Refines.{store_as}
 use Rattle.hm_cells.proofs.table.Cells.store.Goals as goal
 
@@ -7,18 +8,11 @@ pub store-requires : goal.store-requires
 store-requires g c =
     let z = c.self.inside.table.shared.table_id in
     let p = c.args.seat.now in
-    let word : ℕ = c.word_of-word.result in
-    let is : word_at c.args.self.now.site.shape c.args.v c.args.i ≡ word =
-    ap (λ (m : Made g.row.U.Denot). word_at m.site.shape c.args.v c.args.i) (sym c.self.view_is)
-    ∙ (ap (λ (s : Shape). word_at s c.args.v c.args.i) c.self.invariant.shape_is
-    ∙ sym c.word_of-word.ensures.value) in
-    let inside : word < z.words = omega (arith, c.self.invariant.words, c.word_of-word.ensures.below) in (
+    let wide : word_count c.args.self.now.site.shape ≡ z.words =
+    ap (λ (m : Made g.row.U.Denot). word_count m.site.shape) (sym c.self.view_is)
+    ∙ (ap word_count c.self.invariant.shape_is ∙ sym c.self.invariant.words) in (
       c.requires.own ∙ sym (ap (λ (m : Made g.row.U.Denot). m.table) c.self.view_is),
-      inside,
+      subst (λ (n : ℕ). c.args.word < n) wide c.requires.word,
       store_as g.U.Usage.lawful g.U.Usage.allowed g.U.Usage.laws (site_of c.self.inside.table.shared.key)
-          z.slots
-          p.id g.J.Moving.place p.me.0 p.me.1 g.J.Moving.picked word c.args.value
-          (subst (λ (w : ℕ). IsReady g.U.Usage.lawful g.U.Usage.allowed p.me.0 g.J.Moving.picked g.J.Moving.place
-          (Stores g.U.Usage.lawful g.U.Usage.allowed g.J.Moving.picked w c.args.value)) is
-          c.requires.ready),
+          z.slots p.id g.J.Moving.place p.me.0 p.me.1 g.J.Moving.picked c.args.word c.args.value c.requires.ready,
     )

@@ -16,5 +16,5 @@ returns c =
     c.fill.ensures.items (search rules)
     ∙ (ap (λ (n : ℕ). replicate n None) many ∙ sym (map_none masks)) in
     ap (λ (l : List (Option Roles)). record v {
-      scan = record v.scan { masks = l; cursor = 0; bare = false };
+      scan = record v.scan { masks = l; cursor = 0; bare = false; met = None };
     }) none ∙ ap cycle_unmasked c.self.view_is

@@ -9,8 +9,8 @@ pub tend-tells : goal.tend-tells
 tend-tells g x c =
     let old = c.args.self.now in
     let new = c.new.self.now in record {
-      moves = ap (λ (m : Mutating g.row.U.Denot). m.pass.moves) c.ensures.tends
-          ∙ ap (λ (t : Tended). moves_after t old.pass.moves) (sym c.ensures.nothing);
+      moves = ap (λ (m : Mutating g.row.U.Denot). m.pass.part.cycle.clock.moves) c.ensures.tends
+          ∙ ap (λ (t : Tended). moves_after t old.pass.part.cycle.clock.moves) (sym c.ensures.nothing);
       tends = ap (λ (m : Mutating g.row.U.Denot). m.pass.tends) c.ensures.tends;
       to_go = nothing_nearer c.result c.ensures.nothing;
       same = keeps_names old new c.ensures.tends;
