@@ -70,6 +70,7 @@ fn fetch_book<C: Worker<BookUsage>>(c: &mut C) -> Snapshot
     ensures stamp { result.stamp < u64.MAX }
     ensures now { book_stamp (C.sight c.new) ≡ result.stamp }
     ensures tends { (C.sight c.new).tends ≡ (C.sight c.old).tends }
+    ensures moves { (C.sight c.new).moves ≡ (C.sight c.old).moves }
     ensures entry { FetchesBook (C.sight c.old) (C.sight c.new) result }
 {
     c.fetch(COMMON, HAND)
@@ -95,6 +96,7 @@ fn build<C: Worker<BookUsage>>(
     ensures board { name_at (C.sight c.new).roots 7 ≡ Some board_name }
     ensures full { result ≡ Err AttemptRefused.Full → (C.sight c.new).room ≡ 0 }
     ensures tends { (C.sight c.new).tends ≡ (C.sight c.old).tends }
+    ensures moves { (C.sight c.new).moves ≡ (C.sight c.old).moves }
     ensures takes { TakesCost (C.sight c.old) (C.sight c.new) at.now order.now }
 {
     cell_apply(alloc, c, at, order, admitted)
@@ -123,6 +125,7 @@ fn store<C: Worker<BookUsage>>(
     ensures full { result ≡ Tried.Full → (C.sight c.new).room ≡ 0 }
     ensures changed { result ≡ Tried.Changed → IsChanged (C.sight c.new) stamp }
     ensures tends { (C.sight c.new).tends ≡ (C.sight c.old).tends }
+    ensures moves { (C.sight c.new).moves ≡ (C.sight c.old).moves }
     ensures same { result ≡ Tried.Full → C.sight c.new ≡ C.sight c.old }
     ensures greater { result ≡ Tried.Changed
         → FindsGreater (C.sight c.old) (C.sight c.new) stamp }
@@ -171,6 +174,7 @@ fn attempt<C: Worker<BookUsage>>(
     ensures changed { result ≡ Tried.Changed
         → IsChanged (C.sight c.new) (book_stamp (C.sight c.old)) }
     ensures tends { (C.sight c.new).tends ≡ (C.sight c.old).tends }
+    ensures moves { (C.sight c.new).moves ≡ (C.sight c.old).moves }
     ensures hindered { result ≡ Tried.Full
         → IsHindered 1 orders.now so_far.old.next (C.sight c.old) (C.sight c.new) }
     ensures overtaken { result ≡ Tried.Changed → WasOvertaken (C.sight c.old) (C.sight c.new) }
@@ -205,6 +209,7 @@ pub(crate) fn apply<C: Worker<BookUsage>>(
     ensures full { IfErr result (λ halt. IfFull halt (WasFull (C.sight c.old))) }
     ensures up { IfErr result (λ halt. IfFull halt (IsUsedUp (C.sight c.new))) }
     ensures tends { (C.sight c.old).tends ≤ (C.sight c.new).tends }
+    ensures moves { (C.sight c.new).moves ≤ (C.sight c.old).moves + 8 }
     ensures hindered { IfErr result (λ halt. IfFull halt (λ used free.
         IsHindered 1 orders.now so_far.old.next (C.sight c.old) (C.sight c.new))) }
 {

@@ -1,5 +1,5 @@
 //! A desk, at which a caller applies its orders to the book on a heap.
-ghost use Rattle.std.specs.Prelude.{◌≡◌, ◌+◌, ◌<◌, ◌≤◌, length, List, OnOk, IfErr};
+ghost use Rattle.std.specs.Prelude.{◌≡◌, ◌+◌, ◌*◌, ◌<◌, ◌≤◌, length, List, OnOk, IfErr};
 ghost use Rattle.hm_model.specs.declared.entry.Entry.{Entry};
 ghost use Rattle.hm_model.specs.Sight.{Goes};
 ghost use Rattle.hm_cellbook.specs.Fetched.{book_allowed, book_lawful};
@@ -91,6 +91,8 @@ impl<F: Admission> Desk<F> {
         ensures up { IfStalled result (λ at used free. IsUsedUp (C.sight c.new) used free) }
         ensures tends { (C.sight c.old).tends + so_far.new.next
             ≤ (C.sight c.new).tends + so_far.old.next }
+        ensures moves { (C.sight c.new).moves + 24 * so_far.old.next
+            ≤ (C.sight c.old).moves + 24 * (so_far.new.next + 1) }
         ensures hindered { IfStalled result (λ at used free. so_far.new.next ≡ so_far.old.next
             → IsHindered 0 orders.now so_far.old.next (C.sight c.old) (C.sight c.new)) }
     {
@@ -129,6 +131,9 @@ impl<F: Admission> Desk<F> {
         ensures up { IfErr result (λ halt. IfFull halt (IsUsedUp (C.sight c.new))) }
         ensures tends { (C.sight c.old).tends + so_far.new.next
             ≤ (C.sight c.new).tends + so_far.old.next }
+        ensures moves { (C.sight c.new).moves + 24 * so_far.old.next
+            ≤ (C.sight c.old).moves + 24 * so_far.new.next + 8 }
+        ensures moves_each { OnOk result ((C.sight c.new).moves ≤ (C.sight c.old).moves + 24) }
         ensures hindered { IfErr result (λ halt. IfFull halt (λ used free.
             so_far.new.next ≡ so_far.old.next
             → IsHindered 1 orders.now so_far.old.next (C.sight c.old) (C.sight c.new))) }
@@ -163,6 +168,8 @@ impl<F: Admission> Desk<F> {
         ensures up { IfErr result (λ halt. IfFull halt (IsUsedUp (C.sight c.new))) }
         ensures tends { (C.sight c.old).tends + so_far.new.next
             ≤ (C.sight c.new).tends + so_far.old.next }
+        ensures moves { (C.sight c.new).moves + 24 * so_far.old.next
+            ≤ (C.sight c.old).moves + 24 * (so_far.new.next + 1) }
         ensures hindered { IfErr result (λ halt. IfFull halt (λ used free.
             so_far.new.next ≡ so_far.old.next
             → IsHindered 0 orders.now so_far.old.next (C.sight c.old) (C.sight c.new))) }

@@ -1,5 +1,5 @@
 //! Why a caller's work is halted, and what it does at want of room.
-ghost use Rattle.std.specs.Prelude.{◌≡◌, ◌<◌, ◌≤◌, false, true, OnOk, IfErr};
+ghost use Rattle.std.specs.Prelude.{◌≡◌, ◌+◌, ◌<◌, ◌≤◌, false, true, OnOk, IfErr};
 ghost use Rattle.hm_model.specs.Tending.{KeepsNames};
 ghost use Rattle.hm_desk.specs.Stalling.{IfFull, IsUsedUp, WasFull};
 
@@ -23,6 +23,8 @@ pub(crate) fn meet_full<C: Worker<BookUsage>>(c: &mut C, tended: &mut bool) -> R
     ensures same { KeepsNames (C.sight c.old) (C.sight c.new) }
     ensures tends { (C.sight c.old).tends ≤ (C.sight c.new).tends }
     ensures tended { tended.old ≡ false → (C.sight c.old).tends < (C.sight c.new).tends }
+    ensures moves { (C.sight c.new).moves ≤ (C.sight c.old).moves + 8 }
+    ensures still { tended.old ≡ true → (C.sight c.new).moves ≡ (C.sight c.old).moves }
     ensures once { OnOk result ((tended.old ≡ false) × (tended.new ≡ true)) }
     ensures full { IfErr result (λ halt. IfFull halt (WasFull (C.sight c.old))) }
     ensures up { IfErr result (λ halt. IfFull halt (IsUsedUp (C.sight c.new))) }

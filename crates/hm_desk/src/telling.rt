@@ -23,6 +23,7 @@ fn fetch_board<C: Worker<BookUsage>>(c: &mut C)
     ensures quiet { GoesQuietly (C.sight c.old) (C.sight c.new) }
     ensures board { name_at (C.sight c.new).roots 7 ≡ Some board_name }
     ensures tends { (C.sight c.new).tends ≡ (C.sight c.old).tends }
+    ensures moves { (C.sight c.new).moves ≡ (C.sight c.old).moves }
     ensures entry { FetchesCommon (C.sight c.old) (C.sight c.new) }
 {
     c.fetch_ref(COMMON, 3, BOARD);
@@ -45,6 +46,7 @@ fn store_owed<C: Worker<BookUsage>>(
     ensures unchanged { OnErr result (so_far.new ≡ so_far.old) }
     ensures same { OnErr result (C.sight c.new ≡ C.sight c.old) }
     ensures tends { (C.sight c.new).tends ≡ (C.sight c.old).tends }
+    ensures moves { (C.sight c.new).moves ≡ (C.sight c.old).moves }
     ensures few { OnOk result (TakesFew 1 (C.sight c.old) (C.sight c.new)) }
 {
     // The files are numbered one above their callers.
@@ -71,6 +73,7 @@ pub(crate) fn tell<C: Worker<BookUsage>>(
     ensures up { IfErr result (λ halt. IfFull halt (IsUsedUp (C.sight c.new))) }
     ensures empty { IsErr result → (C.sight c.old).room ≡ 0 }
     ensures tends { (C.sight c.old).tends ≤ (C.sight c.new).tends }
+    ensures moves { (C.sight c.new).moves ≤ (C.sight c.old).moves + 8 }
     ensures tended { OnErr result ((C.sight c.old).tends < (C.sight c.new).tends) }
     ensures few { OnOk result
         (((C.sight c.old).room ≡ 0) ⊎ TakesFew 1 (C.sight c.old) (C.sight c.new)) }
@@ -98,6 +101,7 @@ pub(crate) fn settle<C: Worker<BookUsage>>(
     ensures full { IfErr result (λ halt. IfFull halt (WasFull (C.sight c.old))) }
     ensures up { IfErr result (λ halt. IfFull halt (IsUsedUp (C.sight c.new))) }
     ensures tends { (C.sight c.old).tends ≤ (C.sight c.new).tends }
+    ensures moves { (C.sight c.new).moves ≤ (C.sight c.old).moves + 8 }
     ensures hindered { OnErr result
         (IsHindered 0 orders.now so_far.old.next (C.sight c.old) (C.sight c.new)) }
     ensures settled { OnOk result

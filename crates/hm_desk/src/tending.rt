@@ -1,5 +1,5 @@
 //! How a caller tends the heap between its orders and at want of room.
-ghost use Rattle.std.specs.Prelude.{◌<◌};
+ghost use Rattle.std.specs.Prelude.{◌+◌, ◌<◌, ◌≤◌};
 ghost use Rattle.hm_model.specs.Tending.{KeepsNames};
 
 use hm_cellbook::BookUsage;
@@ -12,6 +12,7 @@ const MOST_MOVES: u32 = 8;
 pub(crate) fn make_room<C: Worker<BookUsage>>(c: &mut C) -> bool
     ensures same { KeepsNames (C.sight c.old) (C.sight c.new) }
     ensures tends { (C.sight c.old).tends < (C.sight c.new).tends }
+    ensures moves { (C.sight c.new).moves ≤ (C.sight c.old).moves + 8 }
 {
     let mut moves = 0;
     while moves < MOST_MOVES {
@@ -29,6 +30,7 @@ pub(crate) fn make_room<C: Worker<BookUsage>>(c: &mut C) -> bool
 pub(crate) fn tend_after<C: Worker<BookUsage>>(c: &mut C)
     ensures same { KeepsNames (C.sight c.old) (C.sight c.new) }
     ensures tends { (C.sight c.old).tends < (C.sight c.new).tends }
+    ensures moves { (C.sight c.new).moves ≤ (C.sight c.old).moves + 8 }
 {
     let mut moves = 0;
     while moves < MOST_MOVES {

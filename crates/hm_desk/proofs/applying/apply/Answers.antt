@@ -9,8 +9,15 @@ use Rattle.hm_desk.specs.Hindered.IsHindered.{overtaken}
 use Rattle.hm_desk.proofs.Hindering.{hindered_from, hindered_goes, hindered_same, if_full}
 use Rattle.hm_desk.proofs.applying.apply.Goals as goal
 
+-- the caller moves the stage at most so often as it tends for room once
+once_moved : (before old mid new : ℕ) (was now : Bool) → old ≤ before + cond was 8 0 → mid ≡ old → new ≤ mid + 8
+    → was ≡ false → now ≡ true → new ≤ before + cond now 8 0
+once_moved before old mid new false true few same more first last = omega (arith, few, same, more)
+once_moved before old mid new true now few same more first last = absurd (cc)
+once_moved before old mid new false false few same more first last = absurd (cc)
+
 pub loop-c-init : goal.loop-c-init
-loop-c-init g c = record { work = c.requires.work; goes = on_none _; same = refl; tends = omega arith; start = inl refl }
+loop-c-init g c = record { work = c.requires.work; goes = on_none _; same = refl; tends = omega arith; moves = omega arith; start = inl refl }
 
 pub returns-in-Applied-clause-goes : goal.returns-in-Applied-clause-goes
 returns-in-Applied-clause-goes g c = on_then _ _ _ c.loop-c.invariant.goes c.attempt.ensures.goes
@@ -24,6 +31,7 @@ loop-c-preserved-in-Changed g c = record {
   goes = on_then _ _ _ c.loop-c.invariant.goes c.attempt.ensures.goes;
   same = c.in-Changed.ensures.unchanged (λ e. absurd (cc)) ∙ c.loop-c.invariant.same;
   tends = omega (arith, c.loop-c.invariant.tends, c.attempt.ensures.tends);
+  moves = omega (arith, c.loop-c.invariant.moves, c.attempt.ensures.moves);
   start = inr (hindered_from _ _ _ _ _ c.loop-c.invariant.start c.attempt.ensures.goes
       (overtaken (c.in-Changed.ensures.overtaken refl)));
 }
@@ -35,6 +43,8 @@ loop-c-preserved g c = record {
       (on_names _ _ c.meet_full.ensures.same);
   same = c.in-Full.ensures.unchanged (λ e. absurd (cc)) ∙ c.loop-c.invariant.same;
   tends = omega (arith, c.loop-c.invariant.tends, c.attempt.ensures.tends, c.meet_full.ensures.tends);
+  moves = once_moved _ _ _ _ _ _ c.loop-c.invariant.moves c.attempt.ensures.moves c.meet_full.ensures.moves
+      (c.in_ok-meet_full-in-Full.ensures.once).0 (c.in_ok-meet_full-in-Full.ensures.once).1;
   start = inr (hindered_goes _ _ _ _ _ _
       (hindered_from _ _ _ _ _ c.loop-c.invariant.start c.attempt.ensures.goes
       (hindered_same _ _ _ _ _ _ (ap (λ (p : Progress). p.next) c.loop-c.invariant.same)

@@ -11,6 +11,7 @@ invariant-loop-c g l = record {
   goes : GoesOn (g.C.Caller.sight l.fn.c) (g.C.Caller.sight l.c);
   same : l.so_far ≡ l.fn.so_far;
   tends : (g.C.Caller.sight l.fn.c).tends ≤ (g.C.Caller.sight l.c).tends;
+  moves : (g.C.Caller.sight l.c).moves ≤ (g.C.Caller.sight l.fn.c).moves + cond l.tended 8 0;
   start : (g.C.Caller.sight l.c ≡ g.C.Caller.sight l.fn.c)
       ⊎ IsHindered 1 l.orders l.fn.so_far.next (g.C.Caller.sight l.fn.c) (g.C.Caller.sight l.c);
 }

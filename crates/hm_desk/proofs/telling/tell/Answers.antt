@@ -6,7 +6,7 @@ use Rattle.hm_desk.proofs.telling.tell.Goals as goal
 
 pub loop-c-init : goal.loop-c-init
 loop-c-init g c =
-    record { work = c.requires.work; board = c.requires.board; goes = on_none _; same = refl; tends = omega arith; tended = λ is. absurd (cc); start = inl refl }
+    record { work = c.requires.work; board = c.requires.board; goes = on_none _; same = refl; tends = omega arith; tended = λ is. absurd (cc); moves = omega arith; start = inl refl }
 
 pub returns-in-Ok-clause-goes : goal.returns-in-Ok-clause-goes
 returns-in-Ok-clause-goes g c = on_then _ _ _ c.loop-c.invariant.goes c.store_owed.ensures.goes

@@ -1,5 +1,5 @@
 -- The number is still owed, and the caller may tend for room once.
-use Rattle.std.proofs.Common.{◌≡◌, ◌⊎◌, ◌<◌, ◌≤◌, true, Some, cond}
+use Rattle.std.proofs.Common.{◌≡◌, ◌⊎◌, ◌+◌, ◌<◌, ◌≤◌, true, Some, cond}
 use Rattle.hm_model.specs.Sight.{name_at}
 use Rattle.hm_agreement.specs.Cells.{board_name}
 use Rattle.hm_desk.specs.Working.{GoesOn, IsAtWork}
@@ -13,6 +13,7 @@ invariant-loop-c g l = record {
   same : l.so_far ≡ l.fn.so_far;
   tends : (g.C.Caller.sight l.fn.c).tends ≤ (g.C.Caller.sight l.c).tends;
   tended : l.tended ≡ true → (g.C.Caller.sight l.fn.c).tends < (g.C.Caller.sight l.c).tends;
+  moves : (g.C.Caller.sight l.c).moves ≤ (g.C.Caller.sight l.fn.c).moves + cond l.tended 8 0;
   start : (g.C.Caller.sight l.c ≡ g.C.Caller.sight l.fn.c) ⊎ ((g.C.Caller.sight l.fn.c).room ≡ 0);
 }
 

@@ -7,6 +7,8 @@ abbrev pub invariant-loop-moves : goal.invariant-loop-moves
 invariant-loop-moves g l = record {
   same : KeepsNames (g.C.Caller.sight l.fn.c) (g.C.Caller.sight l.c);
   tends : (g.C.Caller.sight l.fn.c).tends + l.moves ≤ (g.C.Caller.sight l.c).tends;
+  moves : (g.C.Caller.sight l.c).moves ≤ (g.C.Caller.sight l.fn.c).moves + l.moves;
+  most : l.moves ≤ 8;
 }
 
 abbrev pub decreases-loop-moves : goal.decreases-loop-moves

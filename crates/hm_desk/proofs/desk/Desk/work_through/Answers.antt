@@ -13,6 +13,7 @@ loop-so_far-preserved g c = record {
   settled = c.in_ok-work_on.ensures.told;
   further = omega (arith, c.work_on.ensures.further, c.loop-so_far.invariant.further);
   tends = omega (arith, c.loop-so_far.invariant.tends, c.work_on.ensures.tends);
+  moves = omega (arith, c.loop-so_far.invariant.moves, c.in_ok-work_on.ensures.moves_each, c.in_ok-work_on.ensures.next);
   start = λ is. absurd (omega (arith, c.in_ok-work_on.ensures.next, c.loop-so_far.invariant.further, is));
 }
 

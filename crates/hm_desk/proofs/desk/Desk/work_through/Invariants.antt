@@ -1,5 +1,5 @@
 -- What is applied is told, and no order is taken back.
-use Rattle.std.proofs.Common.{length, ◌⊎◌, ◌-◌, ◌+◌, ◌≡◌, ◌≤◌}
+use Rattle.std.proofs.Common.{length, ◌⊎◌, ◌-◌, ◌+◌, ◌*◌, ◌≡◌, ◌≤◌}
 use Rattle.hm_desk.specs.Hindered.{IsHindered, Settles}
 use Rattle.hm_desk.specs.Working.{GoesOn, IsAtWork}
 use Rattle.hm_desk.proofs.desk.Desk.work_through.Given as goal
@@ -11,6 +11,8 @@ invariant-loop-so_far g l = record {
   settled : l.so_far.told ≡ l.so_far.next;
   further : l.fn.so_far.next ≤ l.so_far.next;
   tends : (g.C.Caller.sight l.fn.c).tends + l.so_far.next ≤ (g.C.Caller.sight l.c).tends + l.fn.so_far.next;
+  moves : (g.C.Caller.sight l.c).moves + 24 * l.fn.so_far.next
+      ≤ (g.C.Caller.sight l.fn.c).moves + 24 * l.so_far.next + 8;
   start : l.so_far.next ≡ l.fn.so_far.next
       → IsHindered 0 l.orders l.fn.so_far.next (g.C.Caller.sight l.fn.c) (g.C.Caller.sight l.c)
       ⊎ Settles (g.C.Caller.sight l.fn.c) (g.C.Caller.sight l.c);
