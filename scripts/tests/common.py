@@ -9,8 +9,8 @@ TOP = os.path.dirname(os.path.dirname(os.path.dirname(os.path.realpath(__file__)
 PROGRAM = os.path.join(TOP, "crates", "hm_tool", "out", "hm_tool")
 LONGEST = 67108864  # bytes of a file
 ROW = b"L,1,B,10,5\n"
-# An order takes two versions at least, and a file has 4096 where no option says another number.
-PAIRS = b"L,1,B,10,5\nL,2,S,10,5\n" * 1100
+# An order takes two versions at least, and a file has 8192 where no option says another number.
+PAIRS = b"L,1,B,10,5\nL,2,S,10,5\n" * 1400
 
 
 def path(*parts):

@@ -21,7 +21,7 @@ SUMMARIES = [
 VERSIONS = [
     (["--versions", "64"], b"", 0),
     (["--versions", "64"], ROW * 8, 0),
-    (["--versions", "64"], ROW * 32, 6),
+    (["--versions", "64"], ROW * 64, 6),
     (["--versions=65536"], PAIRS, 0),
     (["--versions", "4096"], PAIRS, 6),
     ([], PAIRS, 6),

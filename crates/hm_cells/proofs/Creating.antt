@@ -1,5 +1,6 @@
 -- A pass that writes the words of its next version, one after another.
 use Rattle.std.proofs.Common.{◌≡◌, ◌<◌, ◌≤◌, ◌+◌, ℕ, ◌++◌, length, Option, refl, sym, ap, ◌∙◌, subst, arith, inl, inr, append-nil}
+use Rattle.hm_cells.specs.Facts.{HasSpare}
 use Rattle.hm_cells.proofs.Words.{ℕ_discrete, dite, Entry, PlainStore, Known, Builds, StoreOwn, HasRoom, IsWritten, Facts, Fits, IsAtRest, IsSound, Made, Takes, taken}
 use Rattle.hm_moves.specs.declared.moving.Act.{Act}
 use Rattle.hm_cells.proofs.Stepped.{held_few, written_here, written_stays}
@@ -27,6 +28,7 @@ module _ {U : Type 0} (lawful : U → PlainStore → Type 0) (allowed : U → Pl
           ∙ (append-nil s.hand ∙ rest.hand));
       few = held_few lawful allowed s t (Builds (StoreOwn i word)) word sound after took 400 rest.few
           (let h = ap length rest.hand in omega arith);
+      spare = subst (λ (f : Facts U). HasSpare f.part) (sym took.is) rest.spare;
     }
 
     pub room_still : HasRoom s.part → HasRoom t.part

@@ -1,9 +1,10 @@
 -- One caller more has a pass of its own.
-use Rattle.std.proofs.Common.{◌≡◌, ◌<◌, ℕ, zero, suc, List, [], ◌∷◌, ◌++◌, length, get_or, replicate, Option, Some, None, Contains, All, refl, sym, ap, ◌∙◌, arith, append_assoc, get_or-set_same, get_or-set_other}
+use Rattle.std.proofs.Common.{◌≡◌, ◌<◌, ℕ, zero, suc, List, [], ◌∷◌, ◌++◌, length, get_or, replicate, Option, Some, None, Contains, All, refl, sym, ap, ◌∙◌, arith, append_assoc, true≢false, get_or-set_same, get_or-set_other}
 use Rattle.hm_cells.proofs.Words.{Entry, PlainStore, IsSizedStart, store_of, option_map, length-replicate, All-append, All-cons, All-nil, Version, IsFresh, Known, TableId, opening_of, Site, Part, View, common_known, fresh_part, view, Facts, Fits, IsAtRest, place_name, sight_of, back, first_roots, fresh_pass, fresh_passes, front, newcomer, newcomers}
 use Rattle.hm_model.specs.Sight.{HasHistory}
 use Rattle.hm_model.proofs.SightFacts.{has_history_fresh}
 use Rattle.hm_cells.proofs.Found.{there_is}
+use Rattle.hm_cells.proofs.Fresh.{none_all}
 use Rattle.hm_cells.proofs.Rooted.{name_place}
 
 module _ {U : Type 0} where
@@ -68,7 +69,7 @@ module _ {U : Type 0} (g : Site U) (z : TableId) where
         unset = λ k ne. name_place held (first_roots g.start) k
             ∙ (ap (place_name held) (get_or-set_other places 0 k first none ne)
             ∙ ap (place_name held) (nothing_there 256 k));
-        copying = refl;
+        copying = none_all g.shape.callers (let e = g.shape.callers_fit in omega (arith, e));
         moves = refl;
         tends = refl;
       }
@@ -92,7 +93,7 @@ module _ {U : Type 0} (g : Site U) (z : TableId) where
   pub all_rest : (n : ℕ) → All IsAtRest (fresh_passes z g n)
   all_rest zero = λ i d low. absurd (omega arith)
   all_rest (suc n) = All-append IsAtRest (fresh_passes z g n) (fresh_pass z g n ∷ []) (all_rest n)
-      (All-cons IsAtRest (fresh_pass z g n) [] record { hand = refl; few = omega arith } (All-nil IsAtRest))
+      (All-cons IsAtRest (fresh_pass z g n) [] record { hand = refl; few = omega arith; spare = λ e. absurd (true≢false (sym e)) } (All-nil IsAtRest))
 
   -- and have seen a lawful history, where the store that they begin with is lawful
   pub all_lawful : (lawful : U → PlainStore → Type 0) (allowed : U → PlainStore → Entry → Type 0)

@@ -1,12 +1,16 @@
 -- The passes of a fresh heap.
-use Rattle.std.proofs.Common.{◌≡◌, ◌≢◌, ◌⊎◌, ◌<◌, ◌≤◌, ◌+◌, ◌*◌, ℕ, zero, suc, Bool, true, false, cond, is_some, eqb, eq-eqb, ne_eqb, List, [], ◌∷◌, ◌++◌, length, get_or, replicate, set, Option, Some, None, IfSome, All, refl, sym, ap, ◌∙◌, subst, arith, ⊎_elim, length-set, length-append, true≢false, ◌-◌}
+use Rattle.std.proofs.Common.{◌≡◌, ◌≢◌, ◌⊎◌, ◌<◌, ◌≤◌, ◌+◌, ◌*◌, ℕ, zero, suc, Bool, true, false, cond, is_some, eqb, eq-eqb, ne_eqb, List, [], ◌∷◌, ◌++◌, length, get_or, replicate, set, Option, Some, None, IfSome, All, refl, sym, ap, ◌∙◌, subst, arith, ⊎_elim, length-set, length-append, true≢false, ◌-◌, slice_index_or, inl}
 use Rattle.hm_cells.proofs.Words.{side_count, slice_get, get_elem?, length-replicate, All-set, All-replicate, TableId, Me, Seat, Version, version_at, Start, Entry, PlainStore, opening_of, starting_count, IsSizedStart, Known, Site, Part, all_known}
 use Rattle.hm_cells.proofs.Words.{common_known, fresh_part, Knowledge, Gripped, IsAmong, IsSound, IsSure, IsSeated, caller_in, facts_of, knowledge, first_roots, first_used, fresh_pass, newcomer, many, numbered, numbered_at}
 use Rattle.std.specs.List.{list_all}
 use Rattle.std.proofs.lemmas.Grind.{common_steps}
 use Rattle.std.proofs.lemmas.List.{replicate-append-replicate}
+use Rattle.std.specs.Prelude.{slice_index_or}
+use Rattle.hm_shape.specs.declared.roles.Role.{Role}
+use Rattle.hm_shape.specs.declared.roles.Role.TheVariants.{Free, From}
 use Rattle.hm_shape.specs.declared.roles.Roles.{Roles}
-use Rattle.hm_moves.specs.Cycles.{is_cleared}
+use Rattle.hm_moves.specs.Cycles.{is_cleared, is_kept, role_at}
+use Rattle.hm_moves.specs.Fresh.{fresh_roles}
 use Rattle.hm_cells.proofs.Words.{Facts, Own, fresh_own, own_of, padded}
 use Rattle.hm_cells.proofs.Found.{there_found}
 
@@ -37,7 +41,7 @@ first_grip {U} start site made grip n is then number = record {
 }
 
 -- of a caller without masks none is there, in eight places
-none_all : (n : ℕ) → 0 < n → list_all is_some (replicate {A = Option Roles} n None) ≡ false
+pub none_all : (n : ℕ) → 0 < n → list_all is_some (replicate {A = Option Roles} n None) ≡ false
 none_all zero low = absurd (omega (arith, low))
 none_all (suc n) low = refl
 
@@ -47,6 +51,26 @@ none_padded n low =
     (length-replicate n None)
     ∙ (replicate-append-replicate n (8 - n) None
     ∙ (let e : n + (8 - n) ≡ 8 = omega (arith, low) in ap (λ (k : ℕ). replicate k None) e))
+
+-- no region of a fresh caller is From
+free_not : (n k : ℕ) → slice_index_or {A = Role} (replicate n Free) k Free ≢ From
+free_not zero k e = cc
+free_not (suc n) zero e = cc
+free_not (suc n) (suc k) e = free_not n k e
+
+fresh_not : (g : ℕ) → role_at fresh_roles g ≢ From
+fresh_not zero e = cc
+fresh_not (suc g) e = free_not 7 g e
+
+-- and none but the first is To or Old
+free_kept : (n g : ℕ) → is_kept (slice_index_or (replicate n Free) g Free) ≡ true → ⊥
+free_kept zero g e = absurd (true≢false (sym e))
+free_kept (suc n) zero e = absurd (true≢false (sym e))
+free_kept (suc n) (suc g) e = free_kept n g e
+
+fresh_only : (g : ℕ) → is_kept (role_at fresh_roles g) ≡ true → g ≡ 0
+fresh_only zero e = refl
+fresh_only (suc g) e = absurd (free_kept 7 g e)
 
 module _ {U : Type 0} (lawful : U → PlainStore → Type 0) (allowed : U → PlainStore → Entry
     → Type 0) (g : Site U) (z : TableId)
@@ -97,7 +121,10 @@ module _ {U : Type 0} (lawful : U → PlainStore → Type 0) (allowed : U → Pl
           to = refl;
           old_is = tt;
           from = λ e. absurd (true≢false (sym e));
+          only = λ h low kept. inl (fresh_only h kept);
+          none = λ e h. fresh_not h.region h.from;
         };
+        counted = omega arith;
         cleared = λ e. absurd (true≢false (sym e ∙ none_cleared));
         scanned = tt;
         apart = (refl, tt);

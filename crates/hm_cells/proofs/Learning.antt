@@ -17,6 +17,7 @@ use Rattle.hm_cells.proofs.Scanned.{scanned_still}
 use Rattle.hm_shape.specs.Words.{stage_at}
 use Rattle.hm_cells.proofs.Short.{short_found}
 use Rattle.hm_cells.proofs.Sure.{sure_of}
+use Rattle.hm_cells.proofs.Stages.{stage_counts, stage_later}
 
 -- a tick finds no version, nor does a step on roles
 tick_here : (t : Tick) (x : ℕ) (o : Option Known) → TickFound t x o → TickFound t x None
@@ -188,6 +189,8 @@ module _ {U : Type 0} (lawful : U → PlainStore → Type 0) (allowed : U → Pl
       by = entry_by lawful allowed c.heap v.seen p good.heap mine names make clean later m.act may.act x;
       is = ap learnt_now begins.is;
       sure = sure_of lawful allowed p.site (applied c id place v p m) id place w new after at_after;
+      later = stage_later lawful allowed c id place v p m found good at names make clean later m.act may.act;
+      counted = stage_counts lawful allowed c id place v p m found good at names make clean later m.act may.act;
       holds = ⊎_elim
           (λ (work : IsWork m.act).
           added_before index left (publishes m.act x) (held work) (without p.hands.held m.let_go) found refl

@@ -6,6 +6,7 @@ pub mod Working
 pub mod Sure
 pub mod Scanned
 pub mod Short
+pub mod Stages
 pub mod Learning
 -- each call is one step of the machine that the Table depicts
 pub mod Refines
@@ -17,6 +18,7 @@ pub mod Rooted
 pub mod Entered
 -- a pass after a step, and after steps that move no word
 pub mod Listed
+pub mod Frees
 pub mod Grounds
 pub mod Moved
 pub mod Stepped
@@ -39,6 +41,7 @@ pub mod Copying
 pub mod Shortening
 pub mod Ticking
 pub mod Shifting
+pub mod Deciding
 -- fresh cells and their passes
 pub mod Opening
 pub mod Fresh

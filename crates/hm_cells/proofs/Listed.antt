@@ -1,5 +1,7 @@
 -- A caller's own versions after a move: those of its Old region, if it has one, and of its To region.
 use Rattle.std.proofs.Common.{◌≡◌, ◌≢◌, ◌<◌, ◌≤◌, ◌+◌, ◌-◌, ℕ, zero, suc, Bool, true, false, nat_lt, List, [], ◌∷◌, ◌++◌, length, filter, take, slice_index_or, slice_get, slice_set, map, Option, Some, None, IfSome, if◌then◌else◌, refl, sym, ap, ◌∙◌, subst, arith, inl, inr, ⊎_elim, append-nil, length-append, length-set, true≢false, ◌⊎◌}
+use Rattle.std.proofs.Math.Logic.{dite}
+use Rattle.std.proofs.Math.Decide.{ℕ_discrete}
 use Rattle.std.proofs.lemmas.List.{get_or-map, get_or-set_other, get_or-set_same, get_or-take, length-map, length-take-le}
 use Rattle.std.proofs.lemmas.Bool.Decides.{nat_tests}
 use Rattle.hm_shape.specs.declared.roles.Role.{Role}
@@ -13,7 +15,7 @@ use Rattle.hm_moves.specs.declared.moving.Tick.{Tick}
 use Rattle.hm_moves.specs.Acts.{listed, publishes}
 use Rattle.hm_moves.specs.After.{count_of}
 use Rattle.hm_moves.specs.Allowed.{MayShift, free_count, kept_free}
-use Rattle.hm_moves.specs.Cycles.{is_free, role_at}
+use Rattle.hm_moves.specs.Cycles.{is_free, is_kept, role_at}
 use Rattle.hm_moves.specs.Shifts.{frees, joined_role, reused_role, turned_role}
 use Rattle.hm_cells.proofs.Words.{Known, Part, Act, Looks, Builds, Ticks, Shifts, IsListed, own_place, old_count, next_version, part_after, version_at}
 use Rattle.hm_moves.proofs.Heaps.{IsWork}
@@ -64,6 +66,42 @@ taken_here : (roles : List Role) (change : Role → Role) (region : ℕ) → reg
 taken_here roles change region low =
     get_or-set_same (map change roles) region To Free
     (subst (λ (n : ℕ). region < n) (sym (length-map roles change)) low)
+
+-- by a turn no region becomes From, and after a reuse none is
+to_not_from : To ≢ From
+to_not_from e = cc
+
+turned_back : (r : Role) → turned_role r ≡ From → r ≡ From
+turned_back Free e = absurd (cc)
+turned_back To e = absurd (cc)
+turned_back Old e = absurd (cc)
+turned_back From e = refl
+
+reused_not : (r : Role) → reused_role r ≢ From
+reused_not Free e = cc
+reused_not To e = cc
+reused_not Old e = cc
+reused_not From e = cc
+
+-- no region is kept by a join, and a turn and a reuse keep none but those that were
+joined_none : (frees : Bool) (r : Role) → is_kept (joined_role frees r) ≡ true → ⊥
+joined_none frees Free e = true≢false (sym e)
+joined_none frees To e = true≢false (sym e)
+joined_none frees Old e = true≢false (sym e)
+joined_none true From e = true≢false (sym e)
+joined_none false From e = true≢false (sym e)
+
+turned_kept : (r : Role) → is_kept (turned_role r) ≡ true → is_kept r ≡ true
+turned_kept Free e = e
+turned_kept To e = refl
+turned_kept Old e = refl
+turned_kept From e = e
+
+reused_kept : (r : Role) → is_kept (reused_role r) ≡ true → is_kept r ≡ true
+reused_kept Free e = e
+reused_kept To e = refl
+reused_kept Old e = refl
+reused_kept From e = absurd (true≢false (sym e))
 
 -- nothing is got from an empty list
 nothing_got : (i : ℕ) (k : Known) → slice_get [] i ≡ Some k → ⊥
@@ -219,7 +257,9 @@ module _ {U : Type 0} where
           (old_count p.site.shape old + p.draft.used) None was.count tt was.places;
       to = was.to;
       old_is = was.old_is;
+      only = was.only;
       from = λ e. let h = was.from e in record { region = h.region; below = h.below; from = h.from };
+      none = λ e h. was.none e record { region = h.region; below = h.below; from = h.from };
     }
     listed_work (Builds b) work next was = record {
       count = count_more p.hands.own (old_count p.site.shape old) p.draft.used
@@ -229,7 +269,9 @@ module _ {U : Type 0} where
           (next_there (publishes (Builds b) x) next) was.places;
       to = was.to;
       old_is = was.old_is;
+      only = was.only;
       from = λ e. let h = was.from e in record { region = h.region; below = h.below; from = h.from };
+      none = λ e h. was.none e record { region = h.region; below = h.below; from = h.from };
     }
       where
         next_there : (n : Option Known) → IfSome n (λ k. k.version ≡ next_version p)
@@ -249,7 +291,9 @@ module _ {U : Type 0} where
           (old_count p.site.shape old + p.draft.used) None was.count tt was.places;
       to = was.to;
       old_is = was.old_is;
+      only = was.only;
       from = λ e. let h = was.from e in record { region = h.region; below = h.below; from = h.from };
+      none = λ e h. was.none e record { region = h.region; below = h.below; from = h.from };
     }
 
     -- and a step on roles has them in another region, or leaves them
@@ -263,7 +307,9 @@ module _ {U : Type 0} where
           (old_count p.site.shape old + p.draft.used) None was.count tt was.places;
       to = was.to;
       old_is = was.old_is;
+      only = was.only;
       from = λ e. let h = was.from e in record { region = h.region; below = h.below; from = h.from };
+      none = λ e h. was.none e record { region = h.region; below = h.below; from = h.from };
     }
     listed_shift (Join region roles) wide below may was =
         let all : List Role = p.cycle.ties.roles.0 in
@@ -279,12 +325,18 @@ module _ {U : Type 0} where
           places = λ i k e. absurd (nothing_got i k e);
           to = ap (λ (r : Roles). role_at r region) may.is ∙ taken_here all change region low;
           old_is = tt;
+          only = λ g small kept. dite (ℕ_discrete g region)
+              (λ (e : g ≡ region). inl e)
+              (λ (e : g ≢ region). absurd (joined_none (frees p) (role_at p.cycle.ties.roles g)
+              (ap is_kept (sym (taken_role all change region g e (omega (arith, wide, small, few))))
+              ∙ (ap (λ (r : Roles). is_kept (role_at r g)) (sym may.is) ∙ kept))));
           from = λ e. record {
             region = p.draft.region;
             below = below;
             from = ap (λ (r : Roles). role_at r p.draft.region) may.is
                 ∙ (taken_role all change region p.draft.region other here ∙ ap change was.to);
           };
+          none = λ e h. true≢false e;
         }
     listed_shift (Turn region roles) wide below may was = turned old was
       where
@@ -328,12 +380,36 @@ module _ {U : Type 0} where
           to = ap (λ (r : Roles). role_at r region) may.is
               ∙ taken_here all turned_role region (low region may.takes.below);
           old_is = (below, turns p.draft.region To below l.to refl);
+          only = λ g small kept. dite (ℕ_discrete g region)
+              (λ (e : g ≡ region). inl e)
+              (λ (e : g ≢ region). inr (ap Some (sym (one_kept g small
+              (turned_kept (role_at p.cycle.ties.roles g)
+              (ap is_kept (sym (taken_role all turned_role region g e (low g small)))
+              ∙ (ap (λ (r : Roles). is_kept (role_at r g)) (sym may.is) ∙ kept)))))));
           from = λ e. let h = l.from e in record {
             region = h.region;
             below = h.below;
             from = turns h.region From h.below h.from refl;
           };
+          none = λ e h. l.none e record {
+            region = h.region;
+            below = h.below;
+            from = turned_back (role_at p.cycle.ties.roles h.region)
+                (sym (taken_role all turned_role region h.region (λ e. taken_not h.region e h.from)
+                (low h.region h.below)) ∙ (ap (λ (r : Roles). role_at r h.region) (sym may.is) ∙ h.from));
+          };
         }
+          where
+            one_kept : (g : ℕ) → g < p.site.shape.regions → is_kept (role_at p.cycle.ties.roles g) ≡ true
+                → g ≡ p.draft.region
+            one_kept g small kept = ⊎_elim
+                (λ (e : g ≡ p.draft.region). e)
+                (λ (e : None ≡ Some g). absurd (cc)) (l.only g small kept)
+
+            taken_not : (g : ℕ) → g ≡ region → role_at roles g ≡ From → ⊥
+            taken_not g e from = to_not_from (sym (ap (λ (r : Roles). role_at r region) may.is
+                ∙ taken_here all turned_role region (low region may.takes.below))
+                ∙ (ap (λ (n : ℕ). role_at roles n) (sym e) ∙ from))
         turned (Some g) l = absurd (no_turn p g wide below l may.reserve)
     listed_shift (Reuse roles) wide below may was =
         let all : List Role = p.cycle.ties.roles.0 in
@@ -349,7 +425,11 @@ module _ {U : Type 0} where
               (old_count p.site.shape old + p.draft.used) None was.count tt was.places;
           to = turns p.draft.region To below was.to;
           old_is = old_still old turns was.old_is;
+          only = λ g small kept. was.only g small (reused_kept (role_at p.cycle.ties.roles g)
+              (ap is_kept (sym (turns g (role_at p.cycle.ties.roles g) small refl)) ∙ kept));
           from = λ e. absurd (true≢false (sym e));
+          none = λ e h. reused_not (role_at p.cycle.ties.roles h.region)
+              (sym (turns h.region (role_at p.cycle.ties.roles h.region) h.below refl) ∙ h.from);
         }
       where
         old_still : (g : Option ℕ) → ((n : ℕ) (role : Role) → n < p.site.shape.regions

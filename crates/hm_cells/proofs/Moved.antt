@@ -3,6 +3,7 @@ use Rattle.std.proofs.Common.{◌≡◌, ◌<◌, ℕ, zero, suc, Bool, true, fa
 use Rattle.hm_cells.proofs.Words.{All-append, All-contains_itself, Seat, Version, Entry, PlainStore, Known, Part, Site, Move, Act, set_here, some, some-injective, some-ne-none, get_elem?, entry_of, publishes, listed, next_version, part_after}
 use Rattle.hm_cells.proofs.Words.{Knowledge, Gripped, Facts, IsAmong, IsSure, IsSound, find_version, names_at, sight_of, Steps, Tells, after_in, move_in, taken, IsSeated, Learnt, Learns, caller_in, facts_of, HasScanned, IsListed, scanned_after, spoils, own_of, Own}
 use Rattle.hm_moves.specs.Cycles.{is_cleared}
+use Rattle.hm_cells.specs.Facts.{IsNext}
 use Rattle.hm_cells.proofs.Found.{IsNamed, among, apart_after, named_stays, names_stay, there_found}
 use Rattle.hm_cells.proofs.Entered.{entered}
 
@@ -122,6 +123,7 @@ module _ {U : Type 0} (lawful : U → PlainStore → Type 0)
       sure = sure;
       old = old';
       listed = listed;
+      counted = learnt.counted seated.sound.counted;
       cleared = cleared_new;
       scanned = scanned_new s.scanned seated.sound.scanned;
       apart = apart_after s.roots s.hand p.hands.held found (publishes act x) seated.sound.apart;
@@ -188,6 +190,8 @@ module _ {U : Type 0} (lawful : U → PlainStore → Type 0)
         what = learnt.what;
         is = after_is;
         names = ap names_at after_is ∙ names_new;
+        later = subst (λ (z : Facts U). IsNext p.cycle.clock.stage z.part.cycle.clock.stage)
+            (sym after_is) learnt.later;
         holds = subst (λ (z : Facts U). IfSome found (Contains z.part.hands.held)) (sym after_is)
             learnt.holds;
         holds_new = subst (λ (z : Facts U). IfSome (publishes act x) (Contains z.part.hands.held))

@@ -67,12 +67,19 @@ module _ {U : Type 0} (lawful : U → PlainStore → Type 0) (allowed : U → Pl
         places = sound.listed.places;
         to = sound.listed.to;
         old_is = sound.listed.old_is;
+        only = sound.listed.only;
         from = λ e. let h = sound.listed.from e in record {
           region = h.region;
           below = h.below;
           from = h.from;
         };
+        none = λ e h. sound.listed.none e record {
+          region = h.region;
+          below = h.below;
+          from = h.from;
+        };
       };
+      counted = sound.counted;
       cleared = λ e. rw e refl;
       scanned = scanned_let s.scanned sound.scanned;
       apart = apart_without s.part.hands.held idle sound.apart;

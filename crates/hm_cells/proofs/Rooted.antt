@@ -74,6 +74,7 @@ module _ {U : Type 0} (lawful : U → PlainStore → Type 0)
           sure = sound.sure;
           old = sound.old;
           listed = sound.listed;
+          counted = sound.counted;
           cleared = sound.cleared;
           scanned = kept;
           apart = sound.apart;

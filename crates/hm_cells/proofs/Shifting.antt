@@ -73,6 +73,8 @@ module _ {U : Type 0} (lawful : U → PlainStore → Type 0)
           by = t.by;
           is = t.is;
           sure = t.sure;
+          later = t.later;
+          counted = t.counted;
           holds = t.holds;
           next = t.next;
           scanned = t.scanned;
@@ -90,6 +92,8 @@ module _ {U : Type 0} (lawful : U → PlainStore → Type 0)
           by = t.by;
           is = t.is;
           sure = t.sure;
+          later = t.later;
+          counted = t.counted;
           holds = t.holds;
           next = t.next;
           scanned = t.scanned;
@@ -107,6 +111,8 @@ module _ {U : Type 0} (lawful : U → PlainStore → Type 0)
           by = t.by;
           is = t.is;
           sure = t.sure;
+          later = t.later;
+          counted = t.counted;
           holds = t.holds;
           next = t.next;
           scanned = t.scanned;
@@ -124,6 +130,8 @@ module _ {U : Type 0} (lawful : U → PlainStore → Type 0)
           by = t.by;
           is = t.is;
           sure = t.sure;
+          later = t.later;
+          counted = t.counted;
           holds = t.holds;
           next = t.next;
           scanned = t.scanned;

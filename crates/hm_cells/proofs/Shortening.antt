@@ -91,6 +91,8 @@ module _ {U : Type 0} (lawful : U → PlainStore → Type 0)
             by = t.by;
             is = t.is;
             sure = t.sure;
+            later = t.later;
+            counted = t.counted;
             scanned = t.scanned;
             holds = t.holds;
             next = t.next;

@@ -2,7 +2,7 @@
 use Rattle.std.proofs.Common.{◌≡◌, ◌≢◌, ◌⊎◌, ◌<◌, ◌≤◌, ◌+◌, ◌&&◌, ℕ, zero, suc, Bool, true, false, true≢false, List, [], ◌∷◌, ◌++◌, length, get_or, set, Option, Some, None, IfSome, Contains, unwrap_or, if◌then◌else◌, eqb-true, refl, sym, ap, ◌∙◌, subst, arith, inl, inr, ⊎_elim, get_or-set_same, get_or-set_other}
 use Rattle.hm_cells.proofs.Words.{each_some, from_some, common_steps, nat_tests, ◌==◌, All-contains, Contains-append_right, Version, naming_word, Entry, PlainStore, Known, Part, Looks, Builds, Ticks, Shifts, LoadReference, LoadNumber, StoreOwn, Publish, LinkStore, Shorten, IsFit, publishes, listed, field_look}
 use Rattle.hm_moves.proofs.Heaps.{IsWork}
-use Rattle.hm_cells.proofs.Words.{is_naming, unnamed_from, unnamed, written_with, IsWritten, done_limit, Facts, IsHeldAt, IsLookable, IsSound, find_version, first_idle, known_at, lookable, nothing_known, Takes, taken}
+use Rattle.hm_cells.proofs.Words.{is_naming, unnamed_from, unnamed, written_with, IsWritten, done_limit, Facts, IsHeldAt, IsLookable, IsSound, find_version, first_idle, known_at, lookable, nothing_known, Steps, taken}
 use Rattle.hm_moves.specs.declared.moving.Act.{Act}
 use Rattle.hm_cells.proofs.Fields.{field_cases}
 use Rattle.hm_cells.proofs.Few.{few_after, not_both}
@@ -83,9 +83,9 @@ module _ {U : Type 0} (lawful : U → PlainStore → Type 0) (allowed : U → Pl
         (there_is s.part.hands.held k there (λ a b x y e. sound.sure.once a b (inl x) (inl y) e)),
   )
 
-  module _ (s t : Facts U) (act : Act) (x : ℕ) (sound : IsSound lawful allowed s)
+  module _ {scan : Bool} (s t : Facts U) (act : Act) (x : ℕ) (sound : IsSound lawful allowed s)
       (after : IsSound lawful allowed t)
-      (took : Takes lawful allowed s act x t) where
+      (took : Steps lawful allowed s scan act x t) where
     abbrev idle : Option Known
     idle = first_idle s.roots s.hand s.part.hands.held
 

@@ -175,6 +175,8 @@ module _ {U : Type 0} (lawful : U → PlainStore → Type 0) (allowed : U → Pl
               by = t.by;
               is = t.is;
               sure = t.sure;
+              later = t.later;
+              counted = t.counted;
               scanned = t.scanned;
               holds = t.holds;
               next = t.next;
@@ -212,6 +214,8 @@ module _ {U : Type 0} (lawful : U → PlainStore → Type 0) (allowed : U → Pl
               by = t.by;
               is = t.is;
               sure = t.sure;
+              later = t.later;
+              counted = t.counted;
               scanned = t.scanned;
               holds = t.holds;
               next = t.next;

@@ -31,7 +31,7 @@ use Rattle.hm_cells.specs.declared.want.Want.{Want}
 use Rattle.hm_cells.specs.declared.want.WantField.{WantField}
 use Rattle.hm_cells.specs.declared.want.WantField.TheVariants as want
 use Rattle.hm_cells.specs.declared.want.Want.TheVariants.{Nothing, Fetch, Store, StoreIf}
-use Rattle.hm_cells.specs.Facts.{Facts, IsAmong, find_version, first_idle, names_at, nothing_known, place_name, scanned_after, sight_of}
+use Rattle.hm_cells.specs.Facts.{Facts, IsAmong, IsNext, find_version, first_idle, names_at, nothing_known, place_name, scanned_after, sight_of}
 
 -- a word names the version whose number is one less, and 0 names none
 abbrev pub version_in : ℕ → Option Version
@@ -236,6 +236,8 @@ module _ {U : Type 0} where
       pub what : Found act x found
       pub is : t ≡ after_in s scan act between x found
       pub names : names_at t ≡ names_at s
+      -- the stage that it has seen goes on
+      pub later : IsNext s.part.cycle.clock.stage t.part.cycle.clock.stage
       -- what was found is held, and so is what was published
       pub holds : IfSome found (Contains t.part.hands.held)
       pub holds_new : IfSome (publishes act x) (Contains t.part.hands.held)

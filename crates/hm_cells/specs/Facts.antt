@@ -1,5 +1,5 @@
 -- What contracts see of a pass.
-use Rattle.std.specs.Prelude.{◌≡◌, ◌⊎◌, ℕ, ◌+◌, ◌*◌, ◌<◌, ◌≤◌, ◌-◌, ◌==◌, ◌&&◌, ◌||◌, not, nat_lt, Bool, true, false, List, [], ◌∷◌, ◌++◌, length, Option, Some, None, IsSome, IfSome, All, map, slice_get, slice_set, unwrap_or, if◌then◌else◌}
+use Rattle.std.specs.Prelude.{◌≡◌, ◌⊎◌, ℕ, ◌+◌, ◌*◌, ◌<◌, ◌≤◌, ◌-◌, ◌==◌, ◌&&◌, ◌||◌, not, nat_lt, Bool, true, false, List, [], ◌∷◌, ◌++◌, length, Option, Some, None, IsSome, IfSome, All, Contains, map, slice_get, slice_index_or, slice_set, unwrap_or, if◌then◌else◌}
 use Rattle.std.specs.List.{find, list_any}
 use Rattle.std.specs.Option.{option_map}
 use Rattle.atomic_table.specs.Seated.{TableId}
@@ -8,7 +8,13 @@ use Rattle.hm_shape.specs.declared.version.Version.{Version}
 use Rattle.hm_shape.specs.Layout.{version_words}
 use Rattle.hm_shape.specs.Versions.{version_at}
 use Rattle.hm_shape.specs.Words.{IsRoles}
+use Rattle.hm_shape.specs.declared.reply.Reply.{Reply}
+use Rattle.hm_shape.specs.declared.reply.ReplyKind.{ReplyKind}
+use Rattle.hm_shape.specs.declared.reply.ReplyKind.TheVariants.{Joined, Clean, Dirty}
 use Rattle.hm_shape.specs.declared.roles.Role.TheVariants.{To, Old, From}
+use Rattle.hm_shape.specs.declared.stage.Phase.{Phase}
+use Rattle.hm_shape.specs.declared.stage.Phase.TheVariants.{Idle, First, Second}
+use Rattle.hm_shape.specs.declared.stage.Phase.TheVariants as phase
 use Rattle.hm_model.specs.declared.object.Name.{Name}
 use Rattle.hm_model.specs.declared.entry.Entry.{Entry}
 use Rattle.hm_model.specs.declared.root.Root.{Root}
@@ -23,10 +29,13 @@ use Rattle.hm_moves.specs.declared.moving.Act.{Act}
 use Rattle.hm_moves.specs.declared.moving.Act.TheVariants.{Looks, Builds, Ticks, Shifts}
 use Rattle.hm_moves.specs.declared.moving.Move.{Move}
 use Rattle.hm_moves.specs.declared.moving.Shift.TheVariants.{LoadRoles, Join, Turn, Reuse}
-use Rattle.hm_moves.specs.Cycles.{field_count, has_masks, holds_from, is_cleared, is_first, is_open, is_scan, is_scanning, meets, role_at}
+use Rattle.hm_shape.specs.Words.{phase_number}
+use Rattle.hm_moves.specs.declared.part.Seen.{Seen}
+use Rattle.hm_moves.specs.declared.part.End.{End}
+use Rattle.hm_moves.specs.Cycles.{field_count, has_masks, holds_from, is_cleared, is_first, is_kept as is_kept_role, is_open, is_scan, is_scanning, known_from, meets, role_at}
 use Rattle.hm_moves.specs.Places.{IsFit}
 use Rattle.hm_moves.specs.After.{is_naming}
-use Rattle.hm_moves.specs.Allowed.{IsWritten, Names, MayLookInto, done_limit}
+use Rattle.hm_moves.specs.Allowed.{IsWritten, Names, MayLookInto, done_limit, free_count, kept_free}
 use Rattle.hm_moves.specs.Good.{AreApart, Begins}
 use Rattle.hm_cells.specs.Owns.{old_count}
 
@@ -37,6 +46,29 @@ most_resting = 400
 -- the stage's word counts fewer cycles than this
 abbrev pub most_cycles : ℕ
 most_cycles = 1073741824
+
+-- a reply of this kind answers a stage of this phase
+abbrev pub is_answer : Phase → ReplyKind → Bool
+is_answer Idle kind = false
+is_answer phase.Join Joined = true
+is_answer phase.Join Clean = false
+is_answer phase.Join Dirty = false
+is_answer First Joined = false
+is_answer First Clean = true
+is_answer First Dirty = false
+is_answer Second Joined = false
+is_answer Second Clean = true
+is_answer Second Dirty = true
+
+-- a stage comes after another, or is the same: its number is no smaller, and where that is the same
+-- all of it is
+pub record IsNext (from to : Seen) : Type 0 where
+  pub number : from.number ≤ to.number
+  pub same : to.number ≡ from.number → to ≡ from
+
+-- a stage has moved at least four times for each cycle that is done, and once for each phase since
+abbrev pub IsCounted : Seen → Type 0
+IsCounted stage = 4 * stage.done + phase_number stage.phase ≤ stage.number
 
 -- which cells, and what all their seats agree on
 pub record Made (U : Type 0) : Type 0 where
@@ -120,9 +152,11 @@ module _ {U : Type 0} where
   abbrev pub names_at : Facts U → List (Option Name)
   names_at s = map (place_name s.part.hands.held) s.roots
 
-  -- a caller's room is what is left of its To region
+  -- a caller's room is what is left of its To region, and the places of each Free region but those
+  -- that it keeps
   abbrev pub room_of : Part U → ℕ
-  room_of p = p.site.shape.versions - p.draft.used
+  room_of p = (p.site.shape.versions - p.draft.used)
+      + p.site.shape.versions * (free_count p - kept_free p)
 
   -- a pass as the callers' trait sees it
   abbrev pub sight_of : Facts U → Sight U
@@ -135,11 +169,11 @@ module _ {U : Type 0} where
     mine = s.part.calls.mine;
     roots = names_at s;
     room = room_of s.part;
-    copying = false;
+    copying = has_masks s.part;
     used = s.part.draft.used;
     span = s.part.site.shape.versions;
-    free = 0;
-    kept = 0;
+    free = free_count s.part;
+    kept = kept_free s.part;
     moves = s.part.cycle.clock.moves;
     tends = s.tends;
     to_go = 0;
@@ -167,8 +201,8 @@ module _ {U : Type 0} where
     pub from : role_at p.cycle.ties.roles region ≡ From
 
   -- its own versions are those of its Old region, if it has one, of which all places are used, and
-  -- behind them those of its To region, each in order of place; and once it has joined it has given
-  -- up a region
+  -- behind them those of its To region, each in order of place; no other region is To or Old; and it
+  -- has given up a region where it has joined, and none where it has not
   pub record IsListed (p : Part U) (old : Option ℕ) : Type 0 where
     pub count : length p.hands.own ≡ old_count p.site.shape old + p.draft.used
     pub places : (i : ℕ) (k : Known) → slice_get p.hands.own i ≡ Some k
@@ -176,7 +210,10 @@ module _ {U : Type 0} where
     pub to : role_at p.cycle.ties.roles p.draft.region ≡ To
     pub old_is : IfSome old (λ region. (region < p.site.shape.regions)
         × (role_at p.cycle.ties.roles region ≡ Old))
+    pub only : (g : ℕ) → g < p.site.shape.regions → is_kept_role (role_at p.cycle.ties.roles g) ≡ true
+        → (g ≡ p.draft.region) ⊎ (old ≡ Some g)
     pub from : p.cycle.ties.joined ≡ true → HasFrom p
+    pub none : p.cycle.ties.joined ≡ false → HasFrom p → ⊥
 
   -- a scan of this caller ended clean in the First of this number: where the caller has seen no
   -- later stage, and has not replied to it nor met from-space since, it is bare, by all masks
@@ -209,10 +246,16 @@ module _ {U : Type 0} where
     pub cleared : is_cleared p ≡ true
     pub unmarked : p.cycle.scan.mark ≡ false
 
-  -- a pass is at rest where nothing is in hand, and few versions are held
+  -- where it has joined, a caller has a Free region to turn to
+  abbrev pub HasSpare : Part U → Type 0
+  HasSpare p = p.cycle.ties.joined ≡ true → 0 < free_count p
+
+  -- a pass is at rest where nothing is in hand, few versions are held, and a Free region is there
+  -- where it has joined
   pub record IsAtRest (s : Facts U) : Type 0 where
     pub hand : s.hand ≡ []
     pub few : length s.part.hands.held ≤ most_resting
+    pub spare : HasSpare s.part
 
   -- a pass was made with the cells
   pub record Fits (s : Facts U) (m : Made U) : Type 0 where
@@ -234,9 +277,22 @@ module _ {U : Type 0} where
       -- it has a role for each of eight regions, and a mask of each caller, or none
       pub roles : IsRoles p.cycle.ties.roles
       pub masks : length p.cycle.scan.masks ≡ p.site.shape.callers
+      -- and a place for the reply of each caller
+      pub heard : length p.cycle.clock.replies ≡ p.site.shape.callers
       -- its scan has passed no more words than it has, and where it is bare it holds no from-space
       pub short : p.cycle.scan.cursor ≤ length p.hands.own * field_count
       pub bare : p.cycle.scan.bare ≡ true → holds_from p ≡ false
+      -- the replies to the stage that it has seen that it knows answer that stage
+      pub replies : (q : ℕ) (r : Reply) → q < p.site.shape.callers
+          → slice_index_or p.cycle.clock.replies q None ≡ Some r
+          → r.number ≡ p.cycle.clock.stage.number
+          → is_answer p.cycle.clock.stage.phase r.kind ≡ true
+      -- while it scans, none of its own versions is known as from-space, and nothing behind an end
+      -- that it found
+      pub kept : (k : Known) → is_scanning p ≡ true → Contains p.hands.own k
+          → known_from p k.version ≡ false
+      pub ended : (e : End) (k : Known) → is_scanning p ≡ true → Contains p.cycle.scan.ends e
+          → MayLookInto p k → k.name ≡ e.name → e.rank < k.rank → known_from p k.version ≡ false
       -- what it may look into is in the heap, and no two versions have one number
       pub fit : (k : Known) → MayLookInto p k → IsFit p.site.shape (done_limit p) k
       pub once : (k m : Known) → MayLookInto p k → MayLookInto p m
@@ -247,12 +303,14 @@ module _ {U : Type 0} where
       pub history : IsLawful (lawful p.site.usage) (allowed p.site.usage) p.site.start seen
 
     -- a pass is sound where its caller is sure, and has its own versions in its To region and in at
-    -- most one Old region; where it holds each version once; where what its 256 root places and its
-    -- hand name is held; and where a clean scan has left it bare
+    -- most one Old region; where the stage that it has seen has counted its moves; where it holds
+    -- each version once; where what its 256 root places and its hand name is held; and where a clean
+    -- scan has left it bare
     pub record IsSound (s : Facts U) : Type 0 where
       pub sure : IsSure s.seen s.part
       pub old : Option ℕ
       pub listed : IsListed s.part old
+      pub counted : IsCounted s.part.cycle.clock.stage
       pub cleared : is_cleared s.part ≡ true → s.part.cycle.scan.bare ≡ true
       pub scanned : IfSome s.scanned (HasScanned s.part)
       pub apart : AreApart s.part.hands.held

@@ -1,5 +1,5 @@
 -- What a caller knows of itself in running words, and how its steps change that.
-use Rattle.std.specs.Prelude.{◌≡◌, ℕ, suc, ◌+◌, ◌-◌, ◌*◌, ◌/◌, ◌%◌, ◌<◌, ◌≤◌, ◌==◌, ◌&&◌, ◌||◌, not, nat_lt, Bool, true, false, List, [], ◌∷◌, ◌++◌, length, replicate, slice_index_or, slice_set, take, Option, Some, None, IfSome, is_some, if◌then◌else◌}
+use Rattle.std.specs.Prelude.{◌≡◌, ℕ, suc, ◌+◌, ◌-◌, ◌*◌, ◌/◌, ◌%◌, ◌<◌, ◌≤◌, ◌==◌, ◌&&◌, ◌||◌, not, nat_lt, Bool, true, false, List, [], ◌∷◌, ◌++◌, filter, length, replicate, slice_index_or, slice_set, take, Option, Some, None, IfSome, is_some, if◌then◌else◌}
 use Rattle.std.specs.List.{list_all}
 use Rattle.std.specs.Option.{option_map}
 use Rattle.hm_shape.specs.declared.roles.Role.{Role}
@@ -12,7 +12,7 @@ use Rattle.hm_moves.specs.declared.part.Part.{Part}
 use Rattle.hm_moves.specs.declared.part.Seen.{Seen}
 use Rattle.hm_moves.specs.declared.moving.Shift.{Shift}
 use Rattle.hm_moves.specs.declared.moving.Shift.TheVariants.{Join, Turn, Reuse}
-use Rattle.hm_moves.specs.Cycles.{field_count, field_word, gives_from, is_before, is_first, role_at}
+use Rattle.hm_moves.specs.Cycles.{field_count, field_word, gives_from, is_before, is_first, is_free, role_at}
 use Rattle.hm_moves.specs.Fresh.{fresh_roles, fresh_stage}
 use Rattle.hm_cells.specs.declared.own.Own.{Own}
 use Rattle.hm_cells.specs.declared.own.Watch.{Watch}
@@ -38,6 +38,13 @@ found_from o (Some v) = knows_from o v
 -- it has the masks of all callers
 abbrev pub has_all : Own → Bool
 has_all o = list_all is_some (take o.shape.callers o.watch.masks)
+
+-- so many of its regions are Free, and so many of those it keeps
+abbrev pub free_in : Own → ℕ
+free_in o = length (filter is_free (take o.shape.regions o.watch.roles.0))
+
+abbrev pub kept_in : Own → ℕ
+kept_in o = if o.watch.joined then 1 else 2
 
 -- an Old region is full
 abbrev pub old_count : Shape → Option ℕ → ℕ
@@ -166,6 +173,7 @@ shifted_as From o roles = moving_to (unmasked record o {
   watch = record o.watch { roles = roles; joined = true; done = o.watch.stage.done };
 }) (first_to roles.0)
 
+-- which of the three it is the new role of the caller's To region tells
 abbrev pub shifting : Own → Roles → Own
 shifting o roles = shifted_as (role_at roles o.region) o roles
 

@@ -29,7 +29,7 @@ use Rattle.hm_moves.specs.Fresh.{fresh_part}
 use Rattle.hm_cells.specs.declared.knowledge.Knowledge.{Knowledge}
 use Rattle.hm_cells.specs.Grips.{Gripped}
 use Rattle.hm_cells.specs.declared.own.Own.{Own}
-use Rattle.hm_cells.specs.Facts.{Facts, HasScanned, IsSure, IsSound, spoils}
+use Rattle.hm_cells.specs.Facts.{Facts, HasScanned, IsCounted, IsNext, IsSure, IsSound, spoils}
 use Rattle.hm_cells.specs.Owns.{own_of}
 
 -- a move that stands for none until a call picks its own
@@ -158,6 +158,10 @@ module _ {U : Type 0} where
       pub by : IfSome (entry_of p.number m.act x) (λ e. caller_of e ≡ p.number)
       pub is : l ≡ learning k place p m between x found
       pub sure : IsSure lawful allowed l.view.seen (part_after p m x found)
+      -- the stage that it has seen goes on, and goes on counting its moves
+      pub later : IsNext p.cycle.clock.stage (part_after p m x found).cycle.clock.stage
+      pub counted : IsCounted p.cycle.clock.stage
+          → IsCounted (part_after p m x found).cycle.clock.stage
       -- what was found is held, and what was published is the next version, and held
       pub holds : IfSome found (Contains (part_after p m x found).hands.held)
       pub next : IfSome (publishes m.act x) (λ new. (new.version ≡ next_version p)

@@ -1,7 +1,7 @@
 //! What a caller knows of itself in running words: where its versions lie, and where it stands in a cycle.
-ghost use Rattle.std.specs.Prelude.{◌≡◌, ◌<◌, IfSome};
+ghost use Rattle.std.specs.Prelude.{◌≡◌, ◌<◌, ◌≤◌, ◌-◌, IfSome};
 ghost use Rattle.hm_shape.specs.Versions.{IsVersionOf};
-ghost use Rattle.hm_cells.specs.Owns.{IsGround, IsTaking, cursor_at, first_to, found_from, fresh_own, has_all, knows_from, loading, masking, moving_to, own_version, passing, scans_in, shifting, stops_at, unmasked};
+ghost use Rattle.hm_cells.specs.Owns.{IsGround, IsTaking, cursor_at, first_to, found_from, free_in, fresh_own, has_all, kept_in, knows_from, loading, masking, moving_to, own_version, passing, scans_in, shifting, stops_at, unmasked};
 
 use hm_moves::Seen;
 use hm_shape::{LINK, MOST_CALLERS, Phase, Reply, Role, Roles, Shape, Version};
@@ -124,6 +124,27 @@ impl Own {
         self.watch.masks[..callers]
             .iter()
             .all(|mask| mask.is_some())
+    }
+
+    /// How many of its regions are Free.
+    pub fn free(&self) -> u32
+        ensures count { result ≡ free_in self.now }
+        ensures few { result ≤ self.now.shape.regions }
+    {
+        let regions = self.shape.regions as usize;
+        let free = self.watch.roles.0[..regions]
+            .iter()
+            .filter(|role| **role == Role::Free);
+        free.count() as u32
+    }
+
+    /// How many Free regions it may turn to: all but one, and but another one where it has not joined.
+    pub fn spare(&self) -> u32
+        ensures count { result ≡ free_in self.now - kept_in self.now }
+        ensures few { result ≤ self.now.shape.regions }
+    {
+        let kept = if self.watch.joined { 1 } else { 2 };
+        self.free().saturating_sub(kept)
     }
 
     /// The i-th of its versions in To and Old, in order of publishing, counted from 0; None where there are no more

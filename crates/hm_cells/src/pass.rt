@@ -60,19 +60,22 @@ impl<U: Usage> Pass<U> {
         self.own.used
     }
 
-    /// How many Free regions the caller's room counts: none while its calls take no other To region.
+    /// How many of the caller's regions are Free.
     pub fn free(&self) -> u32
         ensures { result ≡ (sight_of self.now).free }
     {
-        0
+        self.own.free()
     }
 
-    /// How many versions the caller may still publish.
+    /// How many versions the caller may still publish: in the places that are left of its To region, and in its Free
+    /// regions but one, and but another one where it has not joined a cycle.
     pub fn room(&self) -> u64
         ensures room { result ≡ (sight_of self.now).room }
         ensures sound { IsSound U.lawful U.allowed self.now }
     {
-        u64::from(self.own.shape.versions - self.own.used)
+        let versions = u64::from(self.own.shape.versions);
+        let left = versions - u64::from(self.own.used);
+        left + versions * u64::from(self.own.spare())
     }
 
     /// Whether the caller has joined a cycle, and freed nothing since.

@@ -2,7 +2,9 @@
 ghost use Rattle.std.specs.Prelude.{◌≡◌, IfOk};
 ghost use Rattle.hm_cells.specs.Facts.{Fits, IsAtRest};
 
-use crate::{Cells, Closed, Counts, Pass, load_field, meet, publish, split, store_own};
+use crate::{
+    Cells, Closed, Counts, Pass, a_pass_is_sound, load_field, meet, publish, split, store_own,
+};
 use hm_model::{AnyUsage, Root, Start};
 use hm_shape::{Phase, Shape, Stage, Version};
 use std::alloc::{AllocError, Global};
@@ -32,7 +34,8 @@ fn creates(rt: &impl Abort, cells: &Cells<AnyUsage>, pass: &mut Pass<AnyUsage>) 
     requires rest { IsAtRest pass.old }
     ensures { Fits pass.new cells.now }
 {
-    assert!(rt; pass.room() > 0);
+    a_pass_is_sound(pass);
+    assert!(rt; pass.used() < cells.shape().versions);
     for i in 1..16u32 {
         store_own(cells, pass, i, 0);
     }
@@ -72,7 +75,7 @@ fn closed_cells_tell_what_each_caller_used(rt: HostRuntime) {
     for (caller, used) in [(0, 2), (1, 1)] {
         let counts = Counts {
             used,
-            free: 0,
+            free: 3,
             joined: false,
         };
         assert!(rt; caller < 2);
@@ -101,7 +104,7 @@ fn an_object_of_one_pass_changes_no_place_of_another(rt: HostRuntime) {
     assert_eq!(rt; one.root(Root(0)), Some(Version(1)));
     assert_eq!(rt; one.root(Root(1)), None);
     assert_eq!(rt; other.published(0), Some(Version(16)));
-    assert_eq!(rt; other.room(), 3);
+    assert_eq!(rt; other.room(), 7);
 }
 
 #[test]
@@ -116,8 +119,8 @@ fn a_fresh_heap_has_a_pass_for_each_caller(rt: HostRuntime) {
         let mut pass = passes.pop().expect(&rt, "a pass");
         assert_eq!(rt; pass.number(), number);
         assert_eq!(rt; pass.used(), used);
-        assert_eq!(rt; pass.free(), 0);
-        assert_eq!(rt; pass.room(), u64::from(4 - used));
+        assert_eq!(rt; pass.free(), 3);
+        assert_eq!(rt; pass.room(), u64::from(8 - used));
         assert_eq!(rt; pass.root(Root(0)), Some(Version(1)));
         assert_eq!(rt; pass.published(1), published);
         pass.copy_root(Root(0), Root(9));

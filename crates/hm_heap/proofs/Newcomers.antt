@@ -1,11 +1,14 @@
 -- The passes of a fresh heap, one by one.
-use Rattle.std.proofs.Common.{◌≡◌, ◌⊎◌, ◌<◌, ◌≤◌, ◌+◌, ◌-◌, ℕ, zero, suc, Bool, true, false, cond, [], ◌∷◌, length, get_or, Some, All, slice_get, refl, sym, ap, ◌∙◌, subst, arith, ⊎_elim, length-append}
+use Rattle.std.proofs.Common.{◌≡◌, ◌⊎◌, ◌<◌, ◌≤◌, ◌+◌, ◌*◌, ◌-◌, ℕ, zero, suc, Bool, true, false, cond, [], ◌∷◌, filter, length, take, get_or, Some, All, slice_get, refl, sym, ap, ◌∙◌, subst, arith, ⊎_elim, length-append}
 use Rattle.std.proofs.Math.ListN.{get_or-append}
 use Rattle.std.proofs.Math.Seq.{get_or-append_seam}
 use Rattle.std.proofs.lemmas.Option.{slice_get_within, get_or_from_slice_get}
 use Rattle.atomic_table.specs.Seated.{TableId}
 use Rattle.hm_model.specs.History.{starting_count}
 use Rattle.hm_moves.specs.declared.part.Site.{Site}
+use Rattle.hm_moves.specs.Allowed.{free_count}
+use Rattle.hm_moves.specs.Cycles.{is_free}
+use Rattle.hm_moves.specs.Fresh.{fresh_part, fresh_roles}
 use Rattle.hm_cells.specs.Closing.{AreAll}
 use Rattle.hm_cells.specs.Facts.{Facts, sight_of}
 use Rattle.hm_cells.specs.Making.{first_used, fresh_pass, fresh_passes}
@@ -58,14 +61,24 @@ module _ {U : Type 0} (z : TableId) (g : Site U) where
       → All (λ s. (sight_of s).used ≡ first_used g.start (sight_of s).number) (fresh_passes z g n)
   all_used n = all_of (λ s. (sight_of s).used ≡ first_used g.start (sight_of s).number) n (λ k low. refl)
 
-  -- and the others are its room
+  -- of its four regions all but To are Free
+  three_free : (k : ℕ) → free_count (fresh_part g k) ≡ 3
+  three_free k = ap (λ (n : ℕ). length (filter is_free (take n fresh_roles.0))) g.shape.regions_fit
+
+  -- and what is left of To, with one Free region, is its room
   pub all_room : starting_count g.start ≤ g.shape.versions → (n : ℕ)
-      → All (λ s. (sight_of s).room + (sight_of s).used ≡ g.shape.versions) (fresh_passes z g n)
+      → All (λ s. (sight_of s).room + (sight_of s).used ≡ 2 * g.shape.versions) (fresh_passes z g n)
   all_room few n =
-      all_of (λ s. (sight_of s).room + (sight_of s).used ≡ g.shape.versions) n
-      (λ k low. left (Rattle.std.specs.Prelude.◌==◌ k 0))
+      all_of (λ s. (sight_of s).room + (sight_of s).used ≡ 2 * g.shape.versions) n
+      (λ k low. left (Rattle.std.specs.Prelude.◌==◌ k 0) (free_count (fresh_part g k)) (three_free k))
     where
-      left : (t : Bool) → g.shape.versions - cond t (starting_count g.start) 0
-          + cond t (starting_count g.start) 0 ≡ g.shape.versions
-      left true = omega arith
-      left false = omega arith
+      sums : (t : Bool) → (g.shape.versions - cond t (starting_count g.start) 0)
+          + g.shape.versions * (3 - 2) + cond t (starting_count g.start) 0 ≡ 2 * g.shape.versions
+      sums true = omega (arith, few)
+      sums false = omega arith
+
+      left : (t : Bool) (free : ℕ) → free ≡ 3
+          → (g.shape.versions - cond t (starting_count g.start) 0) + g.shape.versions * (free - 2)
+          + cond t (starting_count g.start) 0 ≡ 2 * g.shape.versions
+      left t free e = ap (λ (f : ℕ). (g.shape.versions - cond t (starting_count g.start) 0)
+          + g.shape.versions * (f - 2) + cond t (starting_count g.start) 0) e ∙ sums t

@@ -1,5 +1,5 @@
 //! Heaps: how they are made with their passes, and closed with all of them.
-ghost use Rattle.std.specs.Prelude.{◌≡◌, ◌+◌, ◌≤◌, All, IfOk, OnOk};
+ghost use Rattle.std.specs.Prelude.{◌≡◌, ◌+◌, ◌*◌, ◌≤◌, All, IfOk, OnOk};
 ghost use Rattle.hm_model.specs.History.{store_of, opening_of, starting_count};
 ghost use Rattle.hm_model.specs.Sight.{HasHistory, IsFresh};
 ghost use Rattle.hm_cells.specs.Closing.{AreAll, CarriesPass, EndsIn, HeldToTheEnd, IsWholeHistory};
@@ -30,8 +30,9 @@ impl<U: Usage> Model for Heap<U> {
 
 impl<U: Usage> Heap<U> {
     /// Makes a heap with its starting objects, and a pass for each caller, in order of number. The starting objects
-    /// take the first places of caller 0, one each, and every other place is free. All memory of the heap is taken
-    /// here, also what its closing needs.
+    /// take the first places of caller 0, one each, and every other place is free. A caller's room is then what is left
+    /// of its To region, and one Free region more: two of the three are kept for its joins. All memory of the heap is
+    /// taken here, also what its closing needs.
     pub fn make(
         alloc: Global,
         shape: Shape,
@@ -53,7 +54,7 @@ impl<U: Usage> Heap<U> {
         ensures used { IfOk result (λ r.
             All (λ s. (sight_of s).used ≡ first_used start (sight_of s).number) r.1.items) }
         ensures room { IfOk result (λ r.
-            All (λ s. (sight_of s).room + (sight_of s).used ≡ shape.versions) r.1.items) }
+            All (λ s. (sight_of s).room + (sight_of s).used ≡ 2 * shape.versions) r.1.items) }
         ensures span { IfOk result (λ r.
             All (λ s. (sight_of s).span ≡ shape.versions) r.1.items) }
     {

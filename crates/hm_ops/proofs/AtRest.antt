@@ -23,5 +23,6 @@ module _ {U : Type 0} where
       hand = k.rest.hand;
       few = let less = without_fewer s.part.hands.held (first_idle s.roots s.hand s.part.hands.held) in
           omega (arith, k.rest.few);
+      spare = k.rest.spare;
     };
   }

@@ -6,7 +6,7 @@ use Rattle.hm_model.specs.declared.entry.Entry.{Entry}
 use Rattle.hm_model.specs.declared.entry.Entry.TheVariants.{StoreIf}
 use Rattle.hm_model.specs.declared.root.Root.{Root}
 use Rattle.hm_model.specs.Store.{Numbers, PlainStore}
-use Rattle.hm_model.specs.Sight.{Sight, Places, Enters, IsUntended, MayEnter, names_of, root_of}
+use Rattle.hm_model.specs.Sight.{Sight, Places, MayEnter, names_of, root_of}
 use Rattle.hm_model.specs.Effect.{with_all}
 use Rattle.hm_model.specs.Calls.{FindsChanged, MayStoreIf, StoresAll}
 use Rattle.hm_model.proofs.CallFacts.{finds_changed_enters, stores_all_enters}
@@ -14,25 +14,14 @@ use Rattle.hm_moves.specs.declared.part.Known.{Known}
 use Rattle.hm_cells.specs.Facts.{Facts, Made, known_at, room_of, sight_of}
 use Rattle.hm_cells.specs.Calls.{IsWholeCopy}
 use Rattle.hm_ops.specs.Resting.{IsRooted}
-use Rattle.hm_ops.specs.Walking.{HasCome, Reads, contents_at}
+use Rattle.hm_ops.specs.Walking.{GoesOn, HasCome, Reads, contents_at}
 use Rattle.hm_ops.specs.Writing.{Roots}
 use Rattle.hm_ops.specs.Storing.{Copies, Ends, tried_at}
 use Rattle.hm_ops.proofs.LinkSteps.{come_named}
+use Rattle.hm_ops.proofs.Onward.{ends_from, goes_from}
 
 module _ {U : Type 0} (lawful : U → PlainStore → Type 0) (allowed : U → PlainStore → Entry → Type 0)
     (m : Made U) where
-  -- a call that ends from where nothing showed to others ends from before
-  ends_from : (s p t : Facts U) (e d : Entry) (taken : ℕ) → sight_of p ≡ sight_of s → d ≡ e
-      → Ends lawful allowed m p d taken t → Ends lawful allowed m s e taken t
-  ends_from s p t e d taken same is ends = record {
-    entry = subst (λ (c : Sight U). Enters lawful allowed c (sight_of t) e) same
-        (subst (Enters lawful allowed (sight_of p) (sight_of t)) is ends.entry);
-    untended = subst (λ (c : Sight U). IsUntended c (sight_of t)) same ends.untended;
-    names = ends.names ∙ ap (λ (c : Sight U). c.roots) same;
-    room = ends.room ∙ ap (λ (c : Sight U). c.room) same;
-    keeps = ends.keeps;
-  }
-
   -- a version was read and its copy written
   module _ (s p t : Facts U) (v : Version) (stamp : ℕ) (refs : Places) (numbers : Numbers)
       (reads : Reads lawful allowed m s v p)
@@ -63,13 +52,19 @@ module _ {U : Type 0} (lawful : U → PlainStore → Type 0) (allowed : U → Pl
         (subst (λ (c : Sight U). MayEnter lawful allowed c
         (StoreIf c.number (known_at s v).name stamp (names_of c refs) numbers Stored)) same may)
 
+    -- another version was there
+    pub copy_goes : (u : Facts U) (at : Root) (next : Version) → GoesOn lawful allowed m t at v next u
+        → GoesOn lawful allowed m s at v next u
+    copy_goes u at next goes =
+        goes_from lawful allowed m s t u (copies.same ∙ reads.same) at v known_still next goes
+
     -- it was hung there
     pub copy_ends : (u : Facts U) → Ends lawful allowed m t (tried_at t v stamp refs numbers Stored) 1 u
         → Ends lawful allowed m s (tried_at s v stamp refs numbers Stored) 1 u
     copy_ends u ends =
         let same : sight_of t ≡ sight_of s = copies.same ∙ reads.same in
-        ends_from s t u (tried_at s v stamp refs numbers Stored)
-        (tried_at t v stamp refs numbers Stored) 1 same
+        ends_from lawful allowed m s t u same (tried_at s v stamp refs numbers Stored)
+        (tried_at t v stamp refs numbers Stored) 1
         (λ i. StoreIf (same i).number (known_still i).name stamp (names_of (same i) refs) numbers Stored) ends
 
   -- a pass has walked to a version

@@ -11,7 +11,6 @@ use Rattle.hm_model.specs.Calls.{Creates, MayCreate}
 use Rattle.hm_model.proofs.CallFacts.{creates_enters}
 use Rattle.hm_model.proofs.Entering.{enters_rests}
 use Rattle.hm_model.proofs.SightFacts.{continues_enters, continues_rests, continues_then}
-use Rattle.hm_moves.specs.declared.part.Site.{Site}
 use Rattle.hm_moves.specs.declared.moving.Act.{Act}
 use Rattle.hm_moves.specs.declared.moving.Act.TheVariants.{Builds}
 use Rattle.hm_moves.specs.declared.moving.Build.TheVariants.{Publish}
@@ -22,7 +21,7 @@ use Rattle.hm_cells.specs.Calls.{MayPublish, Takes, drafted, drafted_numbers, dr
 use Rattle.hm_ops.specs.Resting.{Keeps}
 use Rattle.hm_ops.specs.Placing.{Settles}
 use Rattle.hm_ops.specs.Writing.{Drafts}
-use Rattle.hm_ops.proofs.OneStep.{site_kept, untended_kept}
+use Rattle.hm_ops.proofs.OneStep.{room_taken, untended_kept}
 use Rattle.hm_ops.proofs.Settled.{HasTaken, OnceSettled, new_taken, settled_keeps, taken_hand, taken_name}
 
 module _ {U : Type 0} (lawful : U → PlainStore → Type 0) (allowed : U → PlainStore → Entry → Type 0) where
@@ -67,7 +66,8 @@ module _ {U : Type 0} (lawful : U → PlainStore → Type 0) (allowed : U → Pl
         act = Builds (Publish (drafted t.part))
 
         has : HasTaken lawful allowed m u made (drafted t.part)
-        has = new_taken lawful allowed m t u act 0 k after took made (drafted t.part) (sym is) took.what refl
+        has = new_taken lawful allowed m t u act 0 k after took made (drafted t.part) (sym is) tt took.what
+            refl
 
         entered : Enters lawful allowed (sight_of s) (sight_of u)
             (Create s.part.number n (names_of (sight_of s) refs) numbers)
@@ -97,8 +97,10 @@ module _ {U : Type 0} (lawful : U → PlainStore → Type 0) (allowed : U → Pl
         less f settles =
             let used : u.part.draft.used ≡ t.part.draft.used + 1 = ap (λ (x : Facts U). x.part.draft.used)
             took.is in
-            let size : u.part.site.shape.versions ≡ t.part.site.shape.versions =
-            ap (λ (x : Site U). x.shape.versions) (site_kept lawful allowed t u act 0 took) in
             let left : room_of t.part ≡ room_of s.part = ap (λ (c : Sight U). c.room) d.same in
             let last : room_of f.part ≡ room_of u.part = settles.same.room in
-            omega arith
+            let places : t.part.draft.used ≡ s.part.draft.used = ap (λ (c : Sight U). c.used) d.same in
+            let span : t.part.site.shape.versions ≡ s.part.site.shape.versions =
+            ap (λ (c : Sight U). c.span) d.same in
+            let one = room_taken lawful allowed t u act 0 took tt used (omega (arith, room, places, span)) in
+            omega (arith, left, last, one)

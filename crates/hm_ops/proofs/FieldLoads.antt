@@ -61,7 +61,7 @@ module _ {U : Type 0} (lawful : U → PlainStore → Type 0) (allowed : U → Pl
       same = same_sight lawful allowed s t act x took work no_entry nothing;
       roots = roots_kept lawful allowed s t act x took;
       known = (kept_stays lawful allowed s t act x k.sound after took v (inl rooted)).1;
-      keeps = keeps_none lawful allowed s t act x took m k after (none took) nothing;
+      keeps = keeps_none lawful allowed s t act x took m work k after (none took) nothing;
     }
 
     module _ (i : ℕ) (low : i < 10) (took : Takes lawful allowed s (Looks (field_look (known_at s v) (6 + i))) x t)

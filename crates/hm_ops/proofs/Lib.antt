@@ -13,7 +13,12 @@ pub mod WholeDrafts
 pub mod ChangedCopies
 -- loads and exchanges of links
 pub mod LinkSteps
+-- turns to a Free region
+pub mod TurnedRoles
+pub mod Turned
+pub mod Counts
 -- whole calls, from their steps
+pub mod Onward
 pub mod Creates
 pub mod Fetches
 pub mod FieldStores

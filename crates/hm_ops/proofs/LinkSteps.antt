@@ -28,7 +28,7 @@ use Rattle.hm_ops.specs.Resting.{IsAtPlace, Keeps}
 use Rattle.hm_ops.specs.Placing.{settled}
 use Rattle.hm_ops.specs.Walking.{GoesOn, HasCome, IsLast}
 use Rattle.hm_ops.specs.Storing.{Ends}
-use Rattle.hm_ops.proofs.OneStep.{keeps_none, room_kept, roots_kept, same_sight, site_kept, untended_kept}
+use Rattle.hm_ops.proofs.OneStep.{keeps_none, room_kept, room_taken, roots_kept, same_sight, untended_kept}
 use Rattle.hm_ops.proofs.Settled.{HasTaken, OnceSettled, found_taken, new_taken, place_below, root_named, settled_keeps, settled_same, taken_hand}
 
 -- a link of 0 names none
@@ -101,7 +101,7 @@ module _ {U : Type 0} (lawful : U → PlainStore → Type 0) (allowed : U → Pl
           room = room_kept lawful allowed s t act 0 took tt refl;
           roots = roots_kept lawful allowed s t act 0 took;
           known = (kept_stays lawful allowed s t act 0 k.sound after took v (inl (r.0, at))).1;
-          keeps = keeps_none lawful allowed s t act 0 took m k after
+          keeps = keeps_none lawful allowed s t act 0 took m tt k after
               (link_none (known_at s v) took.found took.what) refl;
         }
 
@@ -119,8 +119,8 @@ module _ {U : Type 0} (lawful : U → PlainStore → Type 0) (allowed : U → Pl
       linked = link_some (known_at s v) next took.found what
 
       has : HasTaken lawful allowed m t next linked.known
-      has = found_taken lawful allowed m s t act (next.0 + 1) k after took next linked.known linked.version linked.is
-          nothing
+      has = found_taken lawful allowed m s t act (next.0 + 1) k after took next linked.known linked.version work
+          linked.is nothing
 
       follows : OnceSettled t r next (GoesOn lawful allowed m s r v next)
       follows =
@@ -174,12 +174,10 @@ module _ {U : Type 0} (lawful : U → PlainStore → Type 0) (allowed : U → Pl
         let entry : Entry = stored s (known_at s v) want in
         let act : Act = Builds (LinkStore (known_at s v) fresh (Some entry)) in
         let has : HasTaken lawful allowed m t made fresh =
-        new_taken lawful allowed m s t act 0 k after took made fresh (sym is)
+        new_taken lawful allowed m s t act 0 k after took made fresh (sym is) tt
         (link_none (known_at s v) took.found took.what) refl in
         let used : t.part.draft.used ≡ s.part.draft.used + 1 =
         ap (λ (x : Facts U). x.part.draft.used) took.is in
-        let size : t.part.site.shape.versions ≡ s.part.site.shape.versions =
-        ap (λ (x : Site U). x.shape.versions) (site_kept lawful allowed s t act 0 took) in
         let same : sight_of (settled t r made) ≡ sight_of t =
         settled_same lawful allowed m t r made fresh has (was_named took.names) in
         record {
@@ -188,7 +186,7 @@ module _ {U : Type 0} (lawful : U → PlainStore → Type 0) (allowed : U → Pl
             entry = subst (λ (c : Sight U). Enters lawful allowed (sight_of s) c entry) (sym same) took.tells;
             untended = subst (IsUntended (sight_of s)) (sym same) (untended_kept lawful allowed s t act 0 took tt);
             names = ap (λ (c : Sight U). c.roots) same ∙ took.names;
-            room = omega arith;
+            room = ap (λ (c : Sight U). c.room + 1) same ∙ room_taken lawful allowed s t act 0 took tt used room;
             keeps = settled_keeps lawful allowed m t r made fresh has;
           };
         }

@@ -1,5 +1,5 @@
 -- What one step leaves of a pass.
-use Rattle.std.proofs.Common.{◌≡◌, ◌≤◌, ◌+◌, ◌-◌, ℕ, List, [], ◌++◌, length, map, append-nil, Option, None, refl, sym, ap, ◌∙◌, subst, arith}
+use Rattle.std.proofs.Common.{◌≡◌, ◌<◌, ◌≤◌, ◌+◌, ◌*◌, ◌-◌, ℕ, if◌then◌else◌, List, [], ◌++◌, filter, length, map, take, append-nil, Option, None, sym, ap, ◌∙◌, subst, arith}
 use Rattle.hm_shape.specs.declared.version.Version.{Version}
 use Rattle.hm_model.specs.declared.entry.Entry.{Entry}
 use Rattle.hm_model.specs.Store.{PlainStore}
@@ -9,12 +9,19 @@ use Rattle.hm_moves.specs.declared.part.Part.{Part}
 use Rattle.hm_moves.specs.declared.moving.Act.{Act}
 use Rattle.hm_moves.specs.After.{count_of, seen_after}
 use Rattle.hm_moves.specs.Acts.{entry_of, listed, publishes}
-use Rattle.hm_cells.specs.Facts.{Facts, Made, Fits, IsSound, heap_of, room_of, sight_of}
+use Rattle.hm_moves.specs.Allowed.{free_count, kept_free}
+use Rattle.hm_moves.specs.Cycles.{has_masks, is_free}
+use Rattle.hm_cells.specs.Facts.{Facts, HasSpare, Made, Fits, IsSound, heap_of, room_of, sight_of}
 use Rattle.hm_cells.specs.Calls.{Takes}
 use Rattle.hm_moves.proofs.Heaps.{IsWork}
 use Rattle.hm_cells.proofs.Stepped.{held_few}
 use Rattle.hm_cells.proofs.Working.{still_readied}
-use Rattle.hm_ops.specs.Resting.{Keeps, Works}
+use Rattle.hm_ops.specs.Resting.{Keeps, Works, most_working}
+
+-- one place less is left, beside those of Free regions
+one_less : (versions used rest : ℕ) → used < versions
+    → (versions - (used + 1)) + rest + 1 ≡ (versions - used) + rest
+one_less versions used rest less = omega (arith, less)
 
 module _ {U : Type 0} (lawful : U → PlainStore → Type 0) (allowed : U → PlainStore → Entry → Type 0) where
   -- a pass at rest may begin to work
@@ -23,6 +30,7 @@ module _ {U : Type 0} (lawful : U → PlainStore → Type 0) (allowed : U → Pl
     fits = k.resting.fits;
     hand = let e : length s.hand ≡ 0 = ap (λ (l : List Version). length l) k.resting.rest.hand in omega arith;
     few = k.resting.rest.few;
+    spare = k.resting.rest.spare;
     sound = k.sound;
   }
 
@@ -30,7 +38,7 @@ module _ {U : Type 0} (lawful : U → PlainStore → Type 0) (allowed : U → Pl
   pub work_rests : (s : Facts U) (m : Made U) → Works lawful allowed s m → s.hand ≡ []
       → Keeps lawful allowed s m
   work_rests s m k empty = record {
-    resting = record { fits = k.fits; rest = record { hand = empty; few = k.few } };
+    resting = record { fits = k.fits; rest = record { hand = empty; few = k.few; spare = k.spare } };
     sound = k.sound;
   }
 
@@ -68,28 +76,53 @@ module _ {U : Type 0} (lawful : U → PlainStore → Type 0) (allowed : U → Pl
         ∙ ((λ i. s.hand ++ map (λ k. k.version) (listed (none i) ++ listed (nothing i)))
         ∙ append-nil s.hand)
 
+    -- by a look or a build a caller's regions stay
+    ties_kept : IsWork act → t.part.cycle.ties ≡ s.part.cycle.ties
+    ties_kept work = ap (λ (f : Facts U). f.part.cycle.ties) took.is
+        ∙ ap (λ (q : Part U). q.cycle.ties) (still_readied s.part act work x)
+
+    frees_kept : IsWork act → free_count t.part ≡ free_count s.part
+    frees_kept work = λ i.
+        length (filter is_free (take (site_kept i).shape.regions (ties_kept work i).roles.0))
+
+    keeps_kept : IsWork act → kept_free t.part ≡ kept_free s.part
+    keeps_kept work = λ i. if (ties_kept work i).joined then 1 else 2
+
+    masks_kept : IsWork act → has_masks t.part ≡ has_masks s.part
+    masks_kept work = ap (λ (f : Facts U). has_masks f.part) took.is
+        ∙ ap (λ (q : Part U). has_masks q) (still_readied s.part act work x)
+
+    -- and with them the one that it has to turn to
+    spare_kept : IsWork act → HasSpare s.part → HasSpare t.part
+    spare_kept work spare = λ joined.
+        let kept : free_count t.part ≡ free_count s.part = frees_kept work in
+        let had = spare (sym (λ i. (ties_kept work i).joined) ∙ joined) in
+        omega (arith, kept, had)
+
     -- a move that takes one version there keeps the pass at work, where the hand has place
-    pub works_one : (m : Made U) → Works lawful allowed s m → IsSound lawful allowed t → length t.hand ≤ 4
-        → Works lawful allowed t m
-    works_one m k after hand = record {
+    pub works_one : (m : Made U) → IsWork act → Works lawful allowed s m → IsSound lawful allowed t
+        → length t.hand ≤ most_working → Works lawful allowed t m
+    works_one m work k after hand = record {
       fits = fits_kept m k.fits;
       hand = hand;
       few = let few = k.hand in
           held_few lawful allowed s t act x k.sound after took 400 k.few (omega arith);
+      spare = spare_kept work k.spare;
       sound = after;
     }
 
     -- so does one that takes nothing
-    pub works_none : (m : Made U) → Works lawful allowed s m → IsSound lawful allowed t → took.found ≡ None
-        → publishes act x ≡ None → Works lawful allowed t m
-    works_none m k after none nothing =
-        works_one m k after (subst (λ (l : List Version). length l ≤ 4) (sym (hand_kept none nothing)) k.hand)
+    pub works_none : (m : Made U) → IsWork act → Works lawful allowed s m → IsSound lawful allowed t
+        → took.found ≡ None → publishes act x ≡ None → Works lawful allowed t m
+    works_none m work k after none nothing =
+        works_one m work k after
+        (subst (λ (l : List Version). length l ≤ most_working) (sym (hand_kept none nothing)) k.hand)
 
     -- and that keeps the pass at rest
-    pub keeps_none : (m : Made U) → Keeps lawful allowed s m → IsSound lawful allowed t → took.found ≡ None
-        → publishes act x ≡ None → Keeps lawful allowed t m
-    keeps_none m k after none nothing =
-        work_rests t m (works_none m (rest_works s m k) after none nothing)
+    pub keeps_none : (m : Made U) → IsWork act → Keeps lawful allowed s m → IsSound lawful allowed t
+        → took.found ≡ None → publishes act x ≡ None → Keeps lawful allowed t m
+    keeps_none m work k after none nothing =
+        work_rests t m (works_none m work (rest_works s m k) after none nothing)
         (hand_kept none nothing ∙ k.resting.rest.hand)
 
     -- one that publishes nothing leaves the room
@@ -103,7 +136,18 @@ module _ {U : Type 0} (lawful : U → PlainStore → Type 0) (allowed : U → Pl
 
     -- so its room stays
     pub room_kept : IsWork act → publishes act x ≡ None → room_of t.part ≡ room_of s.part
-    room_kept work nothing = λ i. (site_kept i).shape.versions - used_kept work nothing i
+    room_kept work nothing = λ i. ((site_kept i).shape.versions - used_kept work nothing i)
+        + (site_kept i).shape.versions * (frees_kept work i - keeps_kept work i)
+
+    -- and one that publishes a version takes one
+    pub room_taken : IsWork act → t.part.draft.used ≡ s.part.draft.used + 1
+        → s.part.draft.used < s.part.site.shape.versions
+        → room_of t.part + 1 ≡ room_of s.part
+    room_taken work more less =
+        (λ i. ((site_kept i).shape.versions - more i)
+        + (site_kept i).shape.versions * (frees_kept work i - keeps_kept work i) + 1)
+        ∙ one_less s.part.site.shape.versions s.part.draft.used
+        (s.part.site.shape.versions * (free_count s.part - kept_free s.part)) less
 
     -- by a look or a build the stage is not moved
     moves_kept : IsWork act → t.part.cycle.clock.moves ≡ s.part.cycle.clock.moves
@@ -113,8 +157,8 @@ module _ {U : Type 0} (lawful : U → PlainStore → Type 0) (allowed : U → Pl
     -- nor does it tend
     pub untended_kept : IsWork act → IsUntended (sight_of s) (sight_of t)
     untended_kept work = record {
-      copying = refl;
-      kept = refl;
+      copying = masks_kept work;
+      kept = keeps_kept work;
       moves = moves_kept work;
       tends = ap (λ (f : Facts U). f.tends) took.is;
     }
@@ -136,8 +180,11 @@ module _ {U : Type 0} (lawful : U → PlainStore → Type 0) (allowed : U → Pl
           mine = mine i;
           roots = took.names i;
           room = room_kept work nothing i;
+          copying = masks_kept work i;
           used = used_kept work nothing i;
           span = (site_kept i).shape.versions;
+          free = frees_kept work i;
+          kept = keeps_kept work i;
           moves = moves_kept work i;
           tends = (took.is i).tends;
         }

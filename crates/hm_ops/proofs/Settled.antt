@@ -10,6 +10,7 @@ use Rattle.hm_model.specs.Store.{PlainStore}
 use Rattle.hm_model.specs.Sight.{name_at}
 use Rattle.hm_moves.specs.declared.part.Known.{Known}
 use Rattle.hm_moves.specs.declared.moving.Act.{Act}
+use Rattle.hm_moves.proofs.Heaps.{IsWork}
 use Rattle.hm_cells.specs.Facts.{Facts, Made, IsSound, IsHeldAt, find_version, known_at, names_at, nothing_known, place_name, sight_of, with_root, without_first, with_hand}
 use Rattle.hm_cells.proofs.Found.{among, found_first}
 use Rattle.hm_cells.proofs.Rooted.{name_place}
@@ -67,12 +68,13 @@ module _ {U : Type 0} (lawful : U → PlainStore → Type 0) (allowed : U → Pl
       record {
         resting = record {
           fits = record { cells = works.fits.cells; site = works.fits.site };
-          rest = record { hand = empty; few = works.few };
+          rest = record { hand = empty; few = works.few; spare = works.spare };
         };
         sound = record {
           sure = sound.sure;
           old = sound.old;
           listed = sound.listed;
+          counted = sound.counted;
           cleared = sound.cleared;
           scanned = sound.scanned;
           apart = sound.apart;
@@ -95,12 +97,13 @@ module _ {U : Type 0} (lawful : U → PlainStore → Type 0) (allowed : U → Pl
     pub hand : t.hand ≡ v ∷ []
 
   module _ (s t : Facts U) (act : Act) (x : ℕ) (k : Keeps lawful allowed s m) (after : IsSound lawful allowed t)
-      (took : Takes lawful allowed s act x t) (v : Version) (n : Known) (is : n.version ≡ v) where
+      (took : Takes lawful allowed s act x t) (v : Version) (n : Known) (is : n.version ≡ v)
+      (work : IsWork act) where
     taken_by : known_at t n.version ≡ n → t.hand ≡ n.version ∷ [] → HasTaken t v n
     taken_by known hand = subst (λ (w : Version). HasTaken t w n) is record {
       works =
           let one : length t.hand ≡ 1 = ap (λ (l : List Version). length l) hand in
-          works_one lawful allowed s t act x took m (rest_works lawful allowed s m k) after (omega arith);
+          works_one lawful allowed s t act x took m work (rest_works lawful allowed s m k) after (omega arith);
       known = known;
       hand = hand;
     }

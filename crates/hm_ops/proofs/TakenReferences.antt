@@ -23,7 +23,7 @@ use Rattle.hm_cells.specs.Calls as call
 use Rattle.hm_cells.proofs.Fields.{hand_field, named_in, small_reference}
 use Rattle.hm_cells.proofs.Found.{at_place, same_version}
 use Rattle.hm_cells.proofs.Stepped.{found_held, kept_held, kept_stays, reference_look}
-use Rattle.hm_ops.specs.Resting.{IsKept, IsRooted, Keeps, Works}
+use Rattle.hm_ops.specs.Resting.{IsKept, IsRooted, Keeps, Works, most_working}
 use Rattle.hm_ops.specs.Walking.{Stays, TakesReference, contents_at}
 use Rattle.hm_ops.specs.Copying.{TakesReferences, given}
 use Rattle.hm_ops.proofs.OneStep.{roots_kept, same_sight, works_one}
@@ -129,12 +129,12 @@ module _ {U : Type 0} (lawful : U → PlainStore → Type 0) (allowed : U → Pl
       }
 
       -- and the pass is at work, where the hand had room
-      pub works_taken : length s.hand < 4 → Works lawful allowed t m
+      pub works_taken : length s.hand < most_working → Works lawful allowed t m
       works_taken few =
           let more : length t.hand ≡ length s.hand + length (option_to_list named) =
           ap (λ (l : List Version). length l) hand ∙ length-append s.hand (option_to_list named) in
           let one = one_at_most named in
-          works_one lawful allowed s t act x took m k after (omega arith)
+          works_one lawful allowed s t act x took m tt k after (omega arith)
 
   -- what is named by something kept is still
   name_stays : (s t : Facts U) (w : Option Version) → IsSound lawful allowed s → Stays s t

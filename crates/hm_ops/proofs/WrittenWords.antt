@@ -125,7 +125,7 @@ module _ {U : Type 0} (lawful : U → PlainStore → Type 0) (allowed : U → Pl
       (took : Takes lawful allowed t (Builds (StoreOwn (first + n) w)) w u) where
     -- the pass is at work still
     pub works_stored : Works lawful allowed u m
-    works_stored = works_none lawful allowed t u (Builds (StoreOwn (first + n) w)) w took m k after took.what refl
+    works_stored = works_none lawful allowed t u (Builds (StoreOwn (first + n) w)) w took m tt k after took.what refl
 
     stays : (j x : ℕ) → first + n ≢ j → Lasts t j x → IsWritten t.part.draft.written j x
         → IsWritten u.part.draft.written j x

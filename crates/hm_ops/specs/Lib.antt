@@ -4,3 +4,4 @@ pub mod Walking
 pub mod Writing
 pub mod Storing
 pub mod Copying
+pub mod Turning

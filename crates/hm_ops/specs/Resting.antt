@@ -5,11 +5,12 @@ use Rattle.hm_model.specs.declared.entry.Entry.{Entry}
 use Rattle.hm_model.specs.declared.root.Root.{Root}
 use Rattle.hm_model.specs.Store.{PlainStore}
 use Rattle.hm_model.specs.Calls.{IsOutside}
-use Rattle.hm_cells.specs.Facts.{Facts, Made, Fits, IsSound, IsAtRest, most_resting}
+use Rattle.hm_cells.specs.Facts.{Facts, Made, Fits, HasSpare, IsSound, IsAtRest, most_resting}
 
--- within a call it has at most so many in hand: those that the references of one version name
+-- within a call it has at most so many in hand: those that the references of one version name, and
+-- a few that it came along
 abbrev pub most_working : ℕ
-most_working = 4
+most_working = 8
 
 module _ {U : Type 0} where
   -- a pass rests with the cells that it was made with
@@ -48,4 +49,5 @@ module _ {U : Type 0} where
       pub fits : Fits s m
       pub hand : length s.hand ≤ most_working
       pub few : length s.part.hands.held ≤ most_resting
+      pub spare : HasSpare s.part
       pub sound : IsSound lawful allowed s

@@ -6,6 +6,7 @@ ghost use Rattle.hm_cells.specs.Facts.{sight_of};
 ghost use Rattle.hm_ops.specs.Resting.{IsResting, Keeps};
 
 use crate::placing::settle;
+use crate::turning::make_place;
 use crate::writing::draft;
 use hm_cells::{Cells, Pass, publish};
 use hm_model::{Full, Root, Usage};
@@ -34,6 +35,7 @@ pub fn create<U: Usage>(
     if pass.room() == 0 {
         return Err(Full);
     }
+    make_place(cells, pass);
     // All words but the link: once that is stored, the version is published and nothing of it may change.
     draft(cells, pass, refs, numbers);
     let made = publish(cells, pass);

@@ -23,6 +23,11 @@
 //! fields replaced, without a look at the link, and exchanges the link in the same way. At another stamp it loads the
 //! link, and answers `Changed` where that is 0.
 //!
+//! A create, a store and a conditional store take one version each. Where all places of the To region are used, such a
+//! call first turns: that region becomes Old, and a Free one becomes To. A caller keeps one Free region for its next
+//! join, and one more where it has not joined a cycle. Where no others are Free, the call answers `Full`, before it
+//! takes a step. [`turn`] does the same by itself, and shows nothing to others but the counts of places and regions.
+//!
 //! Each call returns, since ranks rise along links, and no rank reaches a limit that the heap's shape gives
 //! (`specs/Walking.antt`).
 //!
@@ -44,6 +49,7 @@ mod side_by_side;
 mod storing;
 #[cfg(test)]
 mod tests;
+mod turning;
 mod walking;
 mod writing;
 
@@ -51,3 +57,4 @@ pub use creating::create;
 pub use fetching::{fetch, fetch_number, fetch_ref};
 pub use replacing::store_if;
 pub use storing::{store_number, store_ref};
+pub use turning::{NoFree, turn};

@@ -37,7 +37,7 @@ fn writes(
     ensures whole { IsWholeCopy pass.new.part
         (turned pass.new (known_at pass.new v) (Store field)) }
 {
-    assert!(rt; pass.room() > 0 && pass.root(Root(0)) == Some(v));
+    assert!(rt; pass.used() < cells.shape().versions && pass.root(Root(0)) == Some(v));
     assert_eq!(rt; look(cells, pass, Root(0), v, Want::Nothing), None);
     copy_changed(cells, pass, v, field);
 }

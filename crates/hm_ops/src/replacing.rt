@@ -1,5 +1,5 @@
 //! Conditional stores, which replace all fields.
-ghost use Rattle.std.specs.Prelude.{◌≡◌, ◌<◌, ◌↔◌, IfErr, OnOk};
+ghost use Rattle.std.specs.Prelude.{◌≡◌, ◌<◌, ◌↔◌, IfErr, IfNone, IfSome, OnOk};
 ghost use Rattle.hm_model.specs.Sight.{AreSet, Continues, IsSet, MayEnter};
 ghost use Rattle.hm_model.specs.declared.entry.Tried.TheVariants.{Stored};
 ghost use Rattle.hm_model.specs.Calls.{FindsChanged, IfChanged, MayStoreIf, StoresAll};
@@ -10,6 +10,7 @@ ghost use Rattle.hm_ops.specs.Storing.{Attempts, tried_at};
 
 use crate::linking::{link, look};
 use crate::reading::read_stamp;
+use crate::turning::make_place;
 use crate::writing::rewrite;
 use hm_cells::{Cells, Pass, Want};
 use hm_model::{Root, StoreIfRefused, Usage};
@@ -51,12 +52,42 @@ pub fn store_if<U: Usage>(
     if pass.room() == 0 {
         return Err(StoreIfRefused::Full);
     }
+    make_place(cells, pass);
+    match replace_placed(cells, pass, at, stamp, refs, numbers) {
+        None => Ok(()),
+        Some(found) => Err(StoreIfRefused::Changed { stamp: found }),
+    }
+}
+
+// Replaces all fields of the object that a place names, where the To region has a place, on the condition that the
+// object still has the given stamp. Where it has another one, that is answered.
+fn replace_placed<U: Usage>(
+    cells: &Cells<U>,
+    pass: &mut Pass<U>,
+    at: Root,
+    stamp: u64,
+    refs: [Option<Root>; 4],
+    numbers: [u64; 10],
+) -> Option<u64>
+    requires keeps { Keeps U.lawful U.allowed pass.old cells.now }
+    requires room { HasRoom pass.old.part }
+    requires at { IsSet (sight_of pass.old) at }
+    requires refs { AreSet (sight_of pass.old) refs }
+    requires allowed { MayStoreIf U.lawful U.allowed (sight_of pass.old) at stamp refs numbers }
+    ensures stored { IfNone result (StoresAll U.lawful U.allowed
+        (sight_of pass.old) (sight_of pass.new) at stamp refs numbers) }
+    ensures changed { IfSome result (FindsChanged U.lawful U.allowed
+        (sight_of pass.old) (sight_of pass.new) at stamp refs numbers) }
+    ensures stamp { IfSome result (λ found. found < u64.MAX) }
+    ensures same { Continues U.lawful U.allowed (sight_of pass.old) (sight_of pass.new) }
+    ensures keeps { Keeps U.lawful U.allowed pass.new cells.now }
+{
     let mut v = pass.root(at).unwrap();
     loop {
         match try_replace(cells, pass, at, v, stamp, refs, numbers) {
             Attempt::Goes(next) => v = next,
-            Attempt::Stored => return Ok(()),
-            Attempt::Changed(found) => return Err(StoreIfRefused::Changed { stamp: found }),
+            Attempt::Stored => return None,
+            Attempt::Changed(found) => return Some(found),
         }
     }
 }

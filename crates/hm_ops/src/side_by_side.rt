@@ -164,11 +164,11 @@ impl<'c> Runner<'c> {
     }
 }
 
-// A caller has room for 301 versions. Two of caller 0 are the starting objects, so the last of its tries finds no
-// room, and caller 1 has one left.
+// A caller has room for 300 versions, in two regions. Two of caller 0 are the starting objects, so the last two of its
+// tries find no room.
 #[test]
 fn two_callers_fill_their_own_places_side_by_side(rt: HostRuntime) -> Result<(), Fail> {
-    let shape = Shape::new(2, 4, 301).unwrap();
+    let shape = Shape::new(2, 4, TRIES / 2).unwrap();
     let start = Start {
         numbers: [5; 10],
         sides: [None, None, None, Some([8; 10])],
@@ -186,9 +186,9 @@ fn two_callers_fill_their_own_places_side_by_side(rt: HostRuntime) -> Result<(),
     );
     let mut second = runners.pop().expect(&rt, "the runner of caller 1");
     let mut first = runners.pop().expect(&rt, "the runner of caller 0");
-    assert_eq!(rt; first.counts(), (299, 0, 301));
-    assert_eq!(rt; second.counts(), (300, 1, 300));
-    assert_eq!(rt; first.numbers(), [Some(5), Some(298), None, None]);
+    assert_eq!(rt; first.counts(), (298, 0, 150));
+    assert_eq!(rt; second.counts(), (300, 0, 150));
+    assert_eq!(rt; first.numbers(), [Some(5), Some(297), None, None]);
     assert_eq!(rt; second.numbers(), [Some(5), None, Some(1299), None]);
     Ok(())
 }
@@ -196,7 +196,7 @@ fn two_callers_fill_their_own_places_side_by_side(rt: HostRuntime) -> Result<(),
 // Each increment is a conditional store that is tried until it is stored.
 #[test]
 fn increments_of_two_callers_add_up(rt: HostRuntime) -> Result<(), Fail> {
-    let (cells, a, b) = bare(&rt, rt.alloc(), TRIES + 1)?;
+    let (cells, a, b) = bare(&rt, rt.alloc(), TRIES / 2 + 1)?;
     let mut runners = vec![in rt.alloc(); Runner::new(&cells, a), Runner::new(&cells, b)]?;
     thread::for_each_mut(
         &rt,
@@ -206,8 +206,8 @@ fn increments_of_two_callers_add_up(rt: HostRuntime) -> Result<(), Fail> {
     );
     let mut second = runners.pop().expect(&rt, "the runner of caller 1");
     let mut first = runners.pop().expect(&rt, "the runner of caller 0");
-    assert_eq!(rt; first.counts(), (300, 0, 301));
-    assert_eq!(rt; second.counts(), (300, 1, 300));
+    assert_eq!(rt; first.counts(), (300, 1, 150));
+    assert_eq!(rt; second.counts(), (300, 2, 149));
     let all = Snapshot {
         stamp: 600,
         numbers: [600, 0, 0, 0, 0, 0, 0, 0, 0, 0],
@@ -221,7 +221,7 @@ fn increments_of_two_callers_add_up(rt: HostRuntime) -> Result<(), Fail> {
 // Each caller stores a number of its own, and leaves the other's as it finds it.
 #[test]
 fn stores_of_two_callers_into_one_object_are_not_lost(rt: HostRuntime) -> Result<(), Fail> {
-    let (cells, a, b) = bare(&rt, rt.alloc(), TRIES + 1)?;
+    let (cells, a, b) = bare(&rt, rt.alloc(), TRIES / 2 + 1)?;
     let mut runners = vec![in rt.alloc(); Runner::new(&cells, a), Runner::new(&cells, b)]?;
     thread::for_each_mut(
         &rt,
@@ -238,7 +238,7 @@ fn stores_of_two_callers_into_one_object_are_not_lost(rt: HostRuntime) -> Result
     };
     assert_eq!(rt; first.common(), Some(all));
     assert_eq!(rt; second.common(), Some(all));
-    assert_eq!(rt; first.counts(), (300, 0, 301));
-    assert_eq!(rt; second.counts(), (300, 1, 300));
+    assert_eq!(rt; first.counts(), (300, 1, 150));
+    assert_eq!(rt; second.counts(), (300, 2, 149));
     Ok(())
 }

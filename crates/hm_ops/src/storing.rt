@@ -12,6 +12,7 @@ ghost use Rattle.hm_ops.specs.Storing.{Steps};
 
 use crate::copying::copy_changed;
 use crate::linking::{link, look};
+use crate::turning::make_place;
 use hm_cells::{Cells, Pass, Want, WantField};
 use hm_model::{Full, Root, Usage};
 use hm_shape::Version;
@@ -87,11 +88,28 @@ fn store<U: Usage>(
     if pass.room() == 0 {
         return Err(Full);
     }
+    make_place(cells, pass);
+    store_placed(cells, pass, at, field);
+    Ok(())
+}
+
+// Replaces one field of the object that a place names, where the To region has a place.
+fn store_placed<U: Usage>(cells: &Cells<U>, pass: &mut Pass<U>, at: Root, field: WantField)
+    requires keeps { Keeps U.lawful U.allowed pass.old cells.now }
+    requires room { HasRoom pass.old.part }
+    requires at { IsSet (sight_of pass.old) at }
+    requires field { MayChange pass.old field }
+    requires allowed { MayStore U.lawful U.allowed (sight_of pass.old) at
+        (field_of pass.old field) }
+    ensures stored { Stores U.lawful U.allowed
+        (sight_of pass.old) (sight_of pass.new) at (field_of pass.old field) }
+    ensures same { Continues U.lawful U.allowed (sight_of pass.old) (sight_of pass.new) }
+    ensures keeps { Keeps U.lawful U.allowed pass.new cells.now }
+{
     let mut v = pass.root(at).unwrap();
     while let Some(next) = try_store(cells, pass, at, v, field) {
         v = next;
     }
-    Ok(())
 }
 
 // An attempt at a store, on the version at a root place. Where there is another version behind it, before the copy is

@@ -7,10 +7,12 @@ ghost use Rattle.hm_model.specs.Reading.{ReadsBack};
 ghost use Rattle.hm_cells.specs.Facts.{sight_of};
 ghost use Rattle.hm_ops.specs.Resting.{IsResting};
 
-use crate::{create, fetch, fetch_number, fetch_ref, store_if, store_number, store_ref};
+use crate::{
+    NoFree, create, fetch, fetch_number, fetch_ref, store_if, store_number, store_ref, turn,
+};
 use hm_cells::{Cells, Memory, Pass, meet, split};
 use hm_model::{AnyUsage, Full, Root, Snapshot, Start, StoreIfRefused, Usage};
-use hm_shape::Shape;
+use hm_shape::{Role, Shape, Version};
 use std::alloc::Global;
 use std::process::Abort;
 use std::test::Fail;
@@ -46,6 +48,29 @@ pub(crate) fn bare(rt: &impl Abort, alloc: Global, versions: u32) -> Result<Two,
     let b = passes.pop().expect(rt, "caller 1");
     let a = passes.pop().expect(rt, "caller 0");
     Ok((cells, a, b))
+}
+
+// Cells of one caller with four versions a region. There is the common object alone, with all numbers 0.
+fn alone(rt: &impl Abort, alloc: Global) -> Result<(Cells<AnyUsage>, Pass<AnyUsage>), Memory>
+    ensures { IfOk result (λ r. IsResting r.1 r.0) }
+{
+    let shape = Shape::new(1, 4, 4).unwrap();
+    let start = Start {
+        numbers: [0; 10],
+        sides: [None; 4],
+    };
+    let (cells, mut passes) = Cells::make(alloc, shape, AnyUsage, start)?;
+    let a = passes.pop().expect(rt, "caller 0");
+    Ok((cells, a))
+}
+
+// A turn of a caller that has used all places of its To region.
+fn turns(rt: &impl Abort, cells: &Cells<AnyUsage>, pass: &mut Pass<AnyUsage>) -> Result<(), NoFree>
+    requires rests { IsResting pass.old cells.now }
+    ensures { IsResting pass.new cells.now }
+{
+    assert!(rt; pass.used() == cells.shape().versions);
+    turn(cells, pass)
 }
 
 fn creates(cells: &Cells<AnyUsage>, pass: &mut Pass<AnyUsage>, into: u32) -> Result<(), Full>
@@ -190,7 +215,7 @@ fn what_one_makes_changes_no_place_of_the_other(rt: HostRuntime) -> Result<(), F
     assert_eq!(rt; creates(&cells, &mut a, 1), Ok(()));
     tells(&cells, &mut a, &mut b);
     assert_eq!(rt; (a.is_set(Root(1)), b.is_set(Root(1))), (true, false));
-    assert_eq!(rt; (counts(&a), counts(&b)), ((1, 3, 0), (4, 0, 0)));
+    assert_eq!(rt; (counts(&a), counts(&b)), ((5, 3, 3), (8, 0, 3)));
     let made = Snapshot {
         stamp: 0,
         numbers: [7; 10],
@@ -209,21 +234,69 @@ fn what_one_makes_changes_no_place_of_the_other(rt: HostRuntime) -> Result<(), F
 }
 
 #[test]
-fn a_region_of_four_versions_has_room_for_four(rt: HostRuntime) -> Result<(), Fail> {
+fn two_regions_of_four_versions_have_room_for_eight(rt: HostRuntime) -> Result<(), Fail> {
     let (cells, mut a, mut b) = two(&rt, rt.alloc())?;
-    for (left, used) in [(2, 2), (1, 3)] {
-        assert_eq!(rt; counts(&a), (left, used, 0));
+    for (left, used, free) in [
+        (6, 2, 3),
+        (5, 3, 3),
+        (4, 4, 3),
+        (3, 1, 2),
+        (2, 2, 2),
+        (1, 3, 2),
+    ] {
+        assert_eq!(rt; counts(&a), (left, used, free));
         assert_eq!(rt; creates(&cells, &mut a, 1), Ok(()));
     }
-    for (left, used) in [(4, 0), (3, 1), (2, 2), (1, 3)] {
-        assert_eq!(rt; counts(&b), (left, used, 0));
+    for (left, used, free) in [
+        (8, 0, 3),
+        (7, 1, 3),
+        (6, 2, 3),
+        (5, 3, 3),
+        (4, 4, 3),
+        (3, 1, 2),
+    ] {
+        assert_eq!(rt; counts(&b), (left, used, free));
         assert_eq!(rt; creates(&cells, &mut b, 1), Ok(()));
     }
-    assert_eq!(rt; (counts(&a), counts(&b)), ((0, 4, 0), (0, 4, 0)));
+    assert_eq!(rt; (counts(&a), counts(&b)), ((0, 4, 2), (2, 2, 2)));
     assert_eq!(rt; creates(&cells, &mut a, 2), Err(Full));
-    assert_eq!(rt; creates(&cells, &mut b, 2), Err(Full));
-    assert_eq!(rt; (counts(&a), counts(&b)), ((0, 4, 0), (0, 4, 0)));
-    assert_eq!(rt; (a.is_set(Root(2)), b.is_set(Root(2))), (false, false));
+    assert_eq!(rt; creates(&cells, &mut b, 2), Ok(()));
+    assert_eq!(rt; creates(&cells, &mut b, 3), Ok(()));
+    assert_eq!(rt; creates(&cells, &mut b, 4), Err(Full));
+    assert_eq!(rt; (counts(&a), counts(&b)), ((0, 4, 2), (0, 4, 2)));
+    assert_eq!(rt; (a.is_set(Root(2)), b.is_set(Root(4))), (false, false));
+    Ok(())
+}
+
+#[test]
+fn a_heap_that_never_collects_keeps_two_regions(rt: HostRuntime) -> Result<(), Fail> {
+    let (cells, mut a) = alone(&rt, rt.alloc())?;
+    for left in [7, 6, 5, 4, 3, 2, 1] {
+        assert_eq!(rt; a.room(), left);
+        assert_eq!(rt; creates(&cells, &mut a, 1), Ok(()));
+    }
+    assert_eq!(rt; creates(&cells, &mut a, 1), Err(Full));
+    assert_eq!(rt; counts(&a), (0, 4, 2));
+    assert_eq!(rt; turns(&rt, &cells, &mut a), Err(NoFree));
+    assert_eq!(rt; counts(&a), (0, 4, 2));
+    Ok(())
+}
+
+#[test]
+fn a_turn_leaves_the_room(rt: HostRuntime) -> Result<(), Fail> {
+    let (cells, mut a) = alone(&rt, rt.alloc())?;
+    for number in [1, 2, 3] {
+        assert_eq!(rt; stores(&rt, &cells, &mut a, 0, number), Ok(()));
+    }
+    assert_eq!(rt; counts(&a), (4, 4, 3));
+    assert_eq!(rt; turns(&rt, &cells, &mut a), Ok(()));
+    assert_eq!(rt; counts(&a), (4, 0, 2));
+    let [role, next, ..] = a.roles().0;
+    assert_eq!(rt; (role, next), (Role::Old, Role::To));
+    let last = snapshot(3, [3, 0, 0, 0, 0, 0, 0, 0, 0, 0], [false; 4]);
+    assert_eq!(rt; fetches(&rt, &cells, &mut a, 0), (last, 0, false));
+    assert_eq!(rt; stores(&rt, &cells, &mut a, 0, 4), Ok(()));
+    assert_eq!(rt; a.root(Root(0)), Some(Version(4)));
     Ok(())
 }
 
@@ -235,7 +308,7 @@ fn a_store_that_finds_another_stamp_answers_it(rt: HostRuntime) -> Result<(), Fa
     assert_eq!(rt; replaces(&rt, &cells, &mut a, 0, 7), changed);
     assert_eq!(rt; replaces(&rt, &cells, &mut b, 1, 7), Ok(()));
     assert_eq!(rt; replaces(&rt, &cells, &mut b, 2, 8), Ok(()));
-    assert_eq!(rt; (counts(&a), counts(&b)), ((2, 2, 0), (1, 3, 0)));
+    assert_eq!(rt; (counts(&a), counts(&b)), ((6, 2, 3), (5, 3, 3)));
     assert_eq!(rt; replaces(&rt, &cells, &mut a, 3, 9), Ok(()));
     let last = Snapshot {
         stamp: 4,
@@ -243,8 +316,13 @@ fn a_store_that_finds_another_stamp_answers_it(rt: HostRuntime) -> Result<(), Fa
         set: [false; 4],
     };
     assert_eq!(rt; fetches(&rt, &cells, &mut b, 0), (last, 9, false));
-    assert_eq!(rt; (counts(&a), counts(&b)), ((1, 3, 0), (1, 3, 0)));
+    assert_eq!(rt; (counts(&a), counts(&b)), ((5, 3, 3), (5, 3, 3)));
     assert_eq!(rt; replaces(&rt, &cells, &mut b, 4, 1), Ok(()));
+    assert_eq!(rt; replaces(&rt, &cells, &mut b, 5, 1), Ok(()));
+    assert_eq!(rt; replaces(&rt, &cells, &mut b, 6, 1), Ok(()));
+    assert_eq!(rt; replaces(&rt, &cells, &mut b, 7, 1), Ok(()));
+    assert_eq!(rt; replaces(&rt, &cells, &mut b, 8, 1), Ok(()));
+    assert_eq!(rt; counts(&b), (0, 4, 2));
     assert_eq!(rt;
         replaces(&rt, &cells, &mut b, 0, 2),
         Err(StoreIfRefused::Full)
@@ -253,15 +331,15 @@ fn a_store_that_finds_another_stamp_answers_it(rt: HostRuntime) -> Result<(), Fa
 }
 
 #[test]
-fn a_reader_three_links_behind_finds_the_last_stamp(rt: HostRuntime) -> Result<(), Fail> {
+fn a_reader_seven_links_behind_finds_the_last_stamp(rt: HostRuntime) -> Result<(), Fail> {
     let (cells, mut a, mut b) = bare(&rt, rt.alloc(), 4)?;
-    assert_eq!(rt; stores(&rt, &cells, &mut a, 0, 1), Ok(()));
-    assert_eq!(rt; stores(&rt, &cells, &mut a, 0, 2), Ok(()));
-    assert_eq!(rt; stores(&rt, &cells, &mut a, 0, 3), Ok(()));
-    assert_eq!(rt; stores(&rt, &cells, &mut a, 0, 4), Err(Full));
-    let last = snapshot(3, [3, 0, 0, 0, 0, 0, 0, 0, 0, 0], [false; 4]);
+    for number in [1, 2, 3, 4, 5, 6, 7] {
+        assert_eq!(rt; stores(&rt, &cells, &mut a, 0, number), Ok(()));
+    }
+    assert_eq!(rt; stores(&rt, &cells, &mut a, 0, 8), Err(Full));
+    let last = snapshot(7, [7, 0, 0, 0, 0, 0, 0, 0, 0, 0], [false; 4]);
     assert_eq!(rt; fetches(&rt, &cells, &mut b, 0), (last, 0, false));
-    assert_eq!(rt; (counts(&a), counts(&b)), ((0, 4, 0), (4, 0, 0)));
+    assert_eq!(rt; (counts(&a), counts(&b)), ((0, 4, 2), (8, 0, 3)));
     Ok(())
 }
 
@@ -271,7 +349,7 @@ fn a_caller_reads_back_its_own_store(rt: HostRuntime) -> Result<(), Fail> {
     assert_eq!(rt; stores(&rt, &cells, &mut b, 3, 6), Ok(()));
     assert!(rt; a.is_set(Root(0)));
     assert_eq!(rt; reads_back(&cells, &mut a, Root(0), 3, 8), Ok(8));
-    assert_eq!(rt; (counts(&a), counts(&b)), ((2, 2, 0), (3, 1, 0)));
+    assert_eq!(rt; (counts(&a), counts(&b)), ((6, 2, 3), (7, 1, 3)));
     Ok(())
 }
 
@@ -283,6 +361,7 @@ fn a_conditional_store_behind_a_store_answers_the_new_stamp(rt: HostRuntime) -> 
         replaces(&rt, &cells, &mut b, 0, 9),
         Err(StoreIfRefused::Changed { stamp: 1 })
     );
+    assert_eq!(rt; counts(&b), (8, 0, 3));
     let last = snapshot(1, [7, 0, 0, 0, 0, 0, 0, 0, 0, 0], [false; 4]);
     assert_eq!(rt; fetches(&rt, &cells, &mut a, 0), (last, 0, false));
     Ok(())

@@ -270,7 +270,7 @@ fn a_failed_write_leaves_a_front_of_the_report(rt: HostRuntime) -> Result<(), Fa
 }
 
 /// How many rows the shortest file has that passes the room, where each order rests behind the others.
-const ROWS_THAT_PASS: u32 = 63;
+const ROWS_THAT_PASS: u32 = 90;
 
 /// The rows of so many asks at rising prices, each of which makes all cells of both its lists anew.
 fn rising_asks(alloc: Global, rows: u32) -> Result<String, AllocError> {

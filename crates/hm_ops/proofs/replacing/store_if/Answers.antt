@@ -1,23 +1,25 @@
-use Rattle.hm_ops.proofs.ConditionalStores.{finds_changed, may_try, stores_all}
+use Rattle.hm_moves.specs.Allowed.{free_count}
+use Rattle.hm_cells.specs.Facts.{sight_of}
+use Rattle.hm_ops.proofs.Counts.{finds_changed_from, still_replaces, stores_all_from}
 use Rattle.hm_ops.proofs.replacing.store_if.Goals as goal
 
-pub try_replace-requires-clause-allowed : goal.try_replace-requires-clause-allowed
-try_replace-requires-clause-allowed g c =
-    let l = c.loop-next in
-    may_try g.U.Usage.lawful g.U.Usage.allowed c.args.cells.now c.args.pass.now l.pass c.args.at l.v
-    c.args.stamp c.args.refs c.args.numbers l.invariant
-    c.requires.allowed
+pub replace_placed-requires-clause-allowed : goal.replace_placed-requires-clause-allowed
+replace_placed-requires-clause-allowed g c =
+    let p = c.make_place.new.pass in
+    still_replaces g.U.Usage.lawful g.U.Usage.allowed (sight_of c.args.pass.now) p.part.draft.used
+    (free_count p.part) (sight_of p) c.make_place.ensures.makes.sight c.args.at c.args.stamp c.args.refs
+    c.args.numbers c.requires.allowed
 
-pub returns-in-Stored-clause-stored : goal.returns-in-Stored-clause-stored
-returns-in-Stored-clause-stored g c =
-    let l = c.loop-next in
-    stores_all g.U.Usage.lawful g.U.Usage.allowed c.args.cells.now c.args.pass.now l.pass c.args.at l.v
-    c.args.stamp c.args.refs c.args.numbers l.invariant
-    c.try_replace.new.pass c.in-Stored.ensures
+pub returns-in-None-clause-stored : goal.returns-in-None-clause-stored
+returns-in-None-clause-stored g c =
+    let p = c.make_place.new.pass in
+    stores_all_from g.U.Usage.lawful g.U.Usage.allowed (sight_of c.args.pass.now) p.part.draft.used
+    (free_count p.part) (sight_of p) c.make_place.ensures.makes.sight (sight_of c.replace_placed.new.pass)
+    c.args.at c.args.stamp c.args.refs c.args.numbers c.in-None.ensures.stored
 
-pub returns-in-Changed-clause-changed : goal.returns-in-Changed-clause-changed
-returns-in-Changed-clause-changed g c =
-    let l = c.loop-next in
-    finds_changed g.U.Usage.lawful g.U.Usage.allowed c.args.cells.now c.args.pass.now l.pass c.args.at l.v
-    c.args.stamp c.args.refs c.args.numbers l.invariant
-    c.try_replace.new.pass c.in-Changed.found c.in-Changed.ensures.0
+pub returns-in-Some-clause-changed : goal.returns-in-Some-clause-changed
+returns-in-Some-clause-changed g c =
+    let p = c.make_place.new.pass in
+    finds_changed_from g.U.Usage.lawful g.U.Usage.allowed (sight_of c.args.pass.now) p.part.draft.used
+    (free_count p.part) (sight_of p) c.make_place.ensures.makes.sight (sight_of c.replace_placed.new.pass)
+    c.args.at c.args.stamp c.args.refs c.args.numbers c.in-Some.found c.in-Some.ensures.changed

@@ -1,4 +1,4 @@
-use Rattle.std.proofs.Common.{◌≡◌, ◌+◌, List, All, sym, ap, ◌∙◌, subst}
+use Rattle.std.proofs.Common.{◌≡◌, ◌+◌, ◌*◌, List, All, sym, ap, ◌∙◌, subst}
 use Rattle.hm_moves.specs.declared.part.Site.{Site}
 use Rattle.hm_cells.specs.Closing.{AreAll}
 use Rattle.hm_cells.specs.Facts.{Facts, sight_of}
@@ -30,7 +30,7 @@ returns-clause-room g c =
     let a = c.args in
     let site : Site g.row.U.Denot = record { usage = a.usage; shape = a.shape; start = a.start } in
     let cells = c.in_ok-cells.cells in
-    subst (λ (l : List (Facts g.row.U.Denot)). All (λ s. (sight_of s).room + (sight_of s).used ≡ a.shape.versions) l)
+    subst (λ (l : List (Facts g.row.U.Denot)). All (λ s. (sight_of s).room + (sight_of s).used ≡ 2 * a.shape.versions) l)
     (ap (λ (x : Site g.row.U.Denot). fresh_passes cells.table x a.shape.callers) (sym c.in_ok-cells.ensures.site)
     ∙ sym c.in_ok-cells.ensures.passes)
     (all_room cells.table site c.requires.objects a.shape.callers)
