@@ -9,8 +9,10 @@ TOP = os.path.dirname(os.path.dirname(os.path.dirname(os.path.realpath(__file__)
 PROGRAM = os.path.join(TOP, "crates", "hm_tool", "out", "hm_tool")
 LONGEST = 67108864  # bytes of a file
 ROW = b"L,1,B,10,5\n"
-# An order takes two versions at least, and a file has 8192 where no option says another number.
+# An order takes two versions at least, and a file fills 8192 by turns where no option says another number.
 PAIRS = b"L,1,B,10,5\nL,2,S,10,5\n" * 1400
+# Each rests behind all others, and makes both its lists anew.
+RISING = b"".join(b"L,%d,S,%d,1\n" % (row, row) for row in range(1, 501))
 
 
 def path(*parts):

@@ -4,14 +4,13 @@ import random
 import re
 import resource
 
-from common import LONGEST, PAIRS, ROW, Built, content, path
+from common import LONGEST, ROW, Built, content, path
 from orders import rows_at_random, written
 
 # What a file holds (bytes, or how many zero bytes), and how a replay of it ends.
 FILES = [
     ("no byte", b"", 0, b""),
     ("a row that is refused", ROW + b"L,2,B,0,5\n", 3, b"hm: text 1 2 price\n"),
-    ("more orders than the heap has room for", PAIRS, 6, b"hm: full 1\n"),
     ("as many bytes as a file may have", LONGEST, 3, b"hm: text 1 1 fields\n"),
     ("a byte more than a file may have", LONGEST + 1, 7, b"hm: long 1\n"),
 ]

@@ -16,7 +16,6 @@ TOGETHER = [
     ("nine files", (ROW,) * 9, 7, b"hm: files 9\n"),
     ("twelve files that are not there", (None,) * 12, 7, b"hm: files 12\n"),
     ("more orders in the second file than it has versions", (b"L,1,B,1,1\n", PAIRS), 6, b"hm: full 2\n"),
-    ("more orders in each file than it has versions", (PAIRS, PAIRS), 6, b"hm: full 1\n"),
     ("eight files without rows", (b"",) * 8, 0, b""),
 ]
 

@@ -10,7 +10,8 @@ use Rattle.hm_moves.specs.Allowed.{free_count}
 use Rattle.hm_moves.specs.Cycles.{is_free}
 use Rattle.hm_moves.specs.Fresh.{fresh_part, fresh_roles}
 use Rattle.hm_cells.specs.Closing.{AreAll}
-use Rattle.hm_cells.specs.Facts.{Facts, sight_of}
+use Rattle.hm_cells.specs.Facts.{Facts}
+use Rattle.hm_heap.specs.Tending.{working_sight}
 use Rattle.hm_cells.specs.Making.{first_used, fresh_pass, fresh_passes}
 
 module _ {U : Type 0} (z : TableId) (g : Site U) where
@@ -58,8 +59,8 @@ module _ {U : Type 0} (z : TableId) (g : Site U) where
 
   -- caller 0 has used places for the starting objects
   pub all_used : (n : ℕ)
-      → All (λ s. (sight_of s).used ≡ first_used g.start (sight_of s).number) (fresh_passes z g n)
-  all_used n = all_of (λ s. (sight_of s).used ≡ first_used g.start (sight_of s).number) n (λ k low. refl)
+      → All (λ s. (working_sight s).used ≡ first_used g.start (working_sight s).number) (fresh_passes z g n)
+  all_used n = all_of (λ s. (working_sight s).used ≡ first_used g.start (working_sight s).number) n (λ k low. refl)
 
   -- of its four regions all but To are Free
   three_free : (k : ℕ) → free_count (fresh_part g k) ≡ 3
@@ -67,9 +68,9 @@ module _ {U : Type 0} (z : TableId) (g : Site U) where
 
   -- and what is left of To, with one Free region, is its room
   pub all_room : starting_count g.start ≤ g.shape.versions → (n : ℕ)
-      → All (λ s. (sight_of s).room + (sight_of s).used ≡ 2 * g.shape.versions) (fresh_passes z g n)
+      → All (λ s. (working_sight s).room + (working_sight s).used ≡ 2 * g.shape.versions) (fresh_passes z g n)
   all_room few n =
-      all_of (λ s. (sight_of s).room + (sight_of s).used ≡ 2 * g.shape.versions) n
+      all_of (λ s. (working_sight s).room + (working_sight s).used ≡ 2 * g.shape.versions) n
       (λ k low. left (Rattle.std.specs.Prelude.◌==◌ k 0) (free_count (fresh_part g k)) (three_free k))
     where
       sums : (t : Bool) → (g.shape.versions - cond t (starting_count g.start) 0)

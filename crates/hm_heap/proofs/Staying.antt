@@ -8,11 +8,12 @@ use Rattle.std.proofs.lemmas.List.{get_or-map, length-map}
 use Rattle.std.proofs.lemmas.Option.{slice_get_within, slice_get-get_or, get_or_from_slice_get}
 use Rattle.hm_model.specs.Sight.{IsSameCaller}
 use Rattle.hm_cells.specs.Closing.{AreAll}
-use Rattle.hm_cells.specs.Facts.{Facts, Fits, Made, sight_of}
+use Rattle.hm_cells.specs.Facts.{Facts, Fits, Made}
+use Rattle.hm_heap.specs.Tending.{working_sight}
 use Rattle.hm_heap.specs.Mutators.{AreSameCallers, Mutating}
 
 module _ {U : Type 0} where
-  module _ (s t : Facts U) (same : IsSameCaller (sight_of s) (sight_of t)) where
+  module _ (s t : Facts U) (same : IsSameCaller (working_sight s) (working_sight t)) where
     -- the numbers that tell a heap are those of its Table
     cells_kept : t.cells ≡ s.cells
     cells_kept = λ i. record {
@@ -74,7 +75,7 @@ module _ {U : Type 0} where
   -- mutators whose callers stay the same have passes whose callers do
   pub same_all : (old new : List (Mutating U)) → length new ≡ length old
       → ((i : ℕ) (d : Mutating U) → i < length old
-      → IsSameCaller (sight_of (get_or old i d).pass) (sight_of (get_or new i d).pass))
+      → IsSameCaller (working_sight (get_or old i d).pass) (working_sight (get_or new i d).pass))
       → AreSameCallers (map (λ m. m.pass) old) (map (λ m. m.pass) new)
   same_all old new wide each =
       let pass : Mutating U → Facts U = λ m. m.pass in
@@ -87,8 +88,8 @@ module _ {U : Type 0} where
             sym (get_or-map pass old k d s low) ∙ get_or_from_slice_get (map pass old) k s s was in
             let then : (get_or new k d).pass ≡ t =
             sym (get_or-map pass new k d s (omega (arith, wide))) ∙ get_or_from_slice_get (map pass new) k t s is in
-            subst (λ (x : Facts U). IsSameCaller (sight_of x) (sight_of t)) first
-            (subst (λ (x : Facts U). IsSameCaller (sight_of (get_or old k d).pass) (sight_of x)) then (each k d low));
+            subst (λ (x : Facts U). IsSameCaller (working_sight x) (working_sight t)) first
+            (subst (λ (x : Facts U). IsSameCaller (working_sight (get_or old k d).pass) (working_sight x)) then (each k d low));
       }
     where
       some_mutator : Facts U → Mutating U

@@ -1,1 +1,3 @@
 pub mod Mutators
+pub mod Tending
+pub mod Acting

@@ -3,7 +3,8 @@ ghost use Rattle.std.specs.Prelude.{◌≡◌, ◌+◌, ◌*◌, ◌≤◌, All,
 ghost use Rattle.hm_model.specs.History.{store_of, opening_of, starting_count};
 ghost use Rattle.hm_model.specs.Sight.{HasHistory, IsFresh};
 ghost use Rattle.hm_cells.specs.Closing.{AreAll, CarriesPass, EndsIn, HeldToTheEnd, IsWholeHistory};
-ghost use Rattle.hm_cells.specs.Facts.{Fits, IsAtRest, sight_of};
+ghost use Rattle.hm_cells.specs.Facts.{Fits, IsAtRest};
+ghost use Rattle.hm_heap.specs.Tending.{working_sight};
 ghost use Rattle.hm_cells.specs.Making.{first_used, fresh_passes};
 
 use hm_cells::{Cells, Closed, Memory, Pass};
@@ -48,15 +49,15 @@ impl<U: Usage> Heap<U> {
         ensures all { IfOk result (λ r. AreAll r.0 r.1.items) }
         ensures fits { IfOk result (λ r. All (λ s. Fits s r.0) r.1.items) }
         ensures rest { IfOk result (λ r. All IsAtRest r.1.items) }
-        ensures fresh { IfOk result (λ r. All (λ s. IsFresh (sight_of s)) r.1.items) }
+        ensures fresh { IfOk result (λ r. All (λ s. IsFresh (working_sight s)) r.1.items) }
         ensures histories { IfOk result (λ r.
-            All (λ s. HasHistory U.lawful U.allowed (sight_of s)) r.1.items) }
+            All (λ s. HasHistory U.lawful U.allowed (working_sight s)) r.1.items) }
         ensures used { IfOk result (λ r.
-            All (λ s. (sight_of s).used ≡ first_used start (sight_of s).number) r.1.items) }
+            All (λ s. (working_sight s).used ≡ first_used start (working_sight s).number) r.1.items) }
         ensures room { IfOk result (λ r.
-            All (λ s. (sight_of s).room + (sight_of s).used ≡ 2 * shape.versions) r.1.items) }
+            All (λ s. (working_sight s).room + (working_sight s).used ≡ 2 * shape.versions) r.1.items) }
         ensures span { IfOk result (λ r.
-            All (λ s. (sight_of s).span ≡ shape.versions) r.1.items) }
+            All (λ s. (working_sight s).span ≡ shape.versions) r.1.items) }
     {
         let (cells, passes) = Cells::make(alloc, shape, usage, start)?;
         Ok((Heap { cells }, passes))

@@ -2,15 +2,16 @@
 ghost use Rattle.std.specs.Prelude.{◌≡◌, List};
 ghost use Rattle.hm_model.specs.Sight.{IsSameCaller};
 ghost use Rattle.hm_cells.specs.Closing.{AreAll};
-ghost use Rattle.hm_cells.specs.Facts.{Facts, Fits, Made, sight_of};
+ghost use Rattle.hm_cells.specs.Facts.{Facts, Fits, Made};
+ghost use Rattle.hm_heap.specs.Tending.{working_sight};
 ghost use Rattle.hm_heap.specs.Mutators.{AreSameCallers};
 
 /// A pass whose caller is the same caller of the same heap as before is a pass of that heap still, with its number.
 pub fn a_caller_stays_with_its_heap<U>()
     ensures fits { (m : Made U) (s t : Facts U)
-        → IsSameCaller (sight_of s) (sight_of t) → Fits s m → Fits t m }
+        → IsSameCaller (working_sight s) (working_sight t) → Fits s m → Fits t m }
     ensures number { (s t : Facts U)
-        → IsSameCaller (sight_of s) (sight_of t) → t.part.number ≡ s.part.number }
+        → IsSameCaller (working_sight s) (working_sight t) → t.part.number ≡ s.part.number }
 {}
 
 /// Passes in order of number, whose callers are one by one the same as those of all passes of a heap, are all its

@@ -22,7 +22,7 @@
 //! |---|---|---|
 //! | `is_set`, `copy_root`, `clear_root`, `used`, `free` | that of the pass | none |
 //! | `create`, `fetch`, `fetch_number`, `fetch_ref`, `store_number`, `store_ref`, `store_if` | that of `hm_ops` | as many as there |
-//! | `tend` | a count in the pass, and `Nothing` | none, until there is a collector |
+//! | `tend` | a load of the stage, and one call of `hm_cycle` or `hm_scan` by what is found, or none | that load, and as many as there |
 //!
 //! Nothing but [`Heap::make`] takes memory: closing finds there all that it needs.
 //!
@@ -34,6 +34,7 @@
 mod heap;
 mod laws;
 mod mutator;
+mod tending;
 #[cfg(test)]
 mod tests;
 

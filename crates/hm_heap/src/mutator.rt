@@ -1,8 +1,9 @@
 //! Mutators: passes beside their heap.
-ghost use Rattle.std.specs.Prelude.{◌≡◌, ◌<◌};
+ghost use Rattle.std.specs.Prelude.{◌≡◌, ◌+◌, ◌<◌};
 ghost use Rattle.hm_ops.specs.Resting.{IsResting};
 
 use crate::heap::Heap;
+use crate::tending;
 use hm_cells::{Pass, a_pass_is_sound};
 use hm_model::{Caller, Full, Root, Snapshot, StoreIfRefused, Tended, Usage, Worker};
 use std::marker::Model;
@@ -60,9 +61,9 @@ impl<'h, U: Usage> Mutator<'h, U> {
 }
 
 impl<'h, U: Usage> Caller<U> for Mutator<'h, U> {
-    ghost use Rattle.hm_cells.specs.Facts.{sight_of};
+    ghost use Rattle.hm_heap.specs.Tending.{working_sight};
 
-    ghost sight = { λ m. sight_of m.pass };
+    ghost sight = { λ m. working_sight m.pass };
 
     fn is_set(&self, r: Root) -> bool {
         self.pass.is_set(r)
@@ -124,15 +125,28 @@ impl<'h, U: Usage> Caller<U> for Mutator<'h, U> {
 }
 
 impl<'h, U: Usage> Worker<U> for Mutator<'h, U> {
+    ghost use Rattle.hm_model.specs.Tending.{ComesNearer, KeepsNames, moves_after};
+    ghost use Rattle.hm_heap.specs.Acting.{Tends};
     ghost use Rattle.hm_heap.specs.Mutators.{tended};
+    ghost use Rattle.hm_heap.specs.Tending.{working_sight};
 
-    /// There is nothing to collect.
+    /// Loads the stage, and does what is then to be done: it frees regions, begins a cycle, joins it, scans, replies, or
+    /// moves the stage on. The first of these that applies is done, and answered; with room for a region of versions
+    /// and no cycle, or where a join is asked of a caller that has joined before, nothing is.
     fn tend(&mut self) -> Tended
-        ensures nothing { result ≡ Tended.Nothing }
-        ensures tends { self.new ≡ record self.old { pass = tended self.old.pass } }
+        ensures exact { Tends U.lawful U.allowed (tended self.old.pass) result self.new.pass }
+        ensures heap { self.new.heap ≡ self.old.heap }
+        ensures moves { (working_sight self.new.pass).moves
+            ≡ moves_after result (working_sight self.old.pass).moves }
+        ensures tends { (working_sight self.new.pass).tends
+            ≡ (working_sight self.old.pass).tends + 1 }
+        ensures to_go { ComesNearer result (working_sight self.old.pass).to_go
+            (working_sight self.new.pass).to_go }
+        ensures same { KeepsNames (working_sight self.old.pass) (working_sight self.new.pass) }
     {
+        let heap = self.heap;
         self.pass.count_tend();
-        Tended::Nothing
+        tending::tend(&heap.cells, &mut self.pass)
     }
 
     fn used(&self) -> u32 {

@@ -81,8 +81,89 @@ fn regions_of_four_versions_have_room_for_seven_creates(rt: HostRuntime) -> Resu
     assert_eq!(rt; (caller.used(), caller.free()), (4, 2));
     assert!(rt; caller.is_set(Root(1)));
     assert_eq!(rt; caller.fetch_number(Root(1), 9), 9);
-    assert_eq!(rt; caller.tend(), Tended::Nothing);
     assert_eq!(rt; caller.into_pass().room(), 0);
+    Ok(())
+}
+
+// The next tends of a caller answer these.
+fn tends<W: Worker<AnyUsage>>(rt: &impl Abort, caller: &mut W, answers: &[Tended])
+    ensures { IsSameCaller (W.sight caller.old) (W.sight caller.new) }
+{
+    for answer in answers {
+        assert_eq!(rt; caller.tend(), *answer);
+    }
+}
+
+// Of seven versions five are not reached at the end. The two regions that they are in are freed.
+#[test]
+fn a_caller_alone_takes_a_cycle_to_its_end(rt: HostRuntime) -> Result<(), Fail> {
+    let (heap, pass) = alone(&rt, rt.alloc())?;
+    let mut caller = Mutator::new(&heap, pass);
+    assert_eq!(rt; caller.tend(), Tended::Nothing);
+    for number in 3..10 {
+        assert_eq!(rt; creates(&mut caller, number), Ok(()));
+    }
+    let answers = [
+        Tended::Advanced,
+        Tended::Joined,
+        Tended::Advanced,
+        Tended::Scanned { copied: 2 },
+        Tended::Replied { clean: true },
+        Tended::Advanced,
+        Tended::Replied { clean: true },
+        Tended::Advanced,
+        Tended::Freed { versions: 8 },
+        Tended::Nothing,
+    ];
+    tends(&rt, &mut caller, &answers);
+    assert_eq!(rt; (caller.used(), caller.free()), (2, 3));
+    assert!(rt; caller.is_set(Root(1)));
+    assert_eq!(rt; caller.fetch_number(Root(1), 9), 9);
+    assert_eq!(rt; caller.into_pass().room(), 6);
+    Ok(())
+}
+
+// The caller that begins waits for the other one, which finds the copy that is made of what both name.
+#[test]
+fn two_callers_take_a_cycle_to_its_end_by_turns(rt: HostRuntime) -> Result<(), Fail> {
+    let (heap, a, b) = two(&rt, rt.alloc())?;
+    let mut a = Mutator::new(&heap, a);
+    let mut b = Mutator::new(&heap, b);
+    for number in 3..7 {
+        assert_eq!(rt; creates(&mut a, number), Ok(()));
+    }
+    let waits = Tended::Waits { caller: 1 };
+    let clean = Tended::Replied { clean: true };
+    tends(&rt, &mut a, &[Tended::Advanced, Tended::Joined, waits]);
+    tends(&rt, &mut b, &[Tended::Joined, Tended::Advanced]);
+    tends(&rt, &mut a, &[Tended::Scanned { copied: 2 }, clean, waits]);
+    tends(
+        &rt,
+        &mut b,
+        &[
+            Tended::Scanned { copied: 0 },
+            clean,
+            Tended::Advanced,
+            clean,
+        ],
+    );
+    tends(
+        &rt,
+        &mut a,
+        &[
+            clean,
+            Tended::Advanced,
+            Tended::Freed { versions: 8 },
+            Tended::Nothing,
+        ],
+    );
+    tends(
+        &rt,
+        &mut b,
+        &[Tended::Freed { versions: 4 }, Tended::Nothing],
+    );
+    assert_eq!(rt; (a.used(), b.used()), (2, 0));
+    assert_eq!(rt; (a.free(), b.free()), (3, 3));
     Ok(())
 }
 

@@ -32,6 +32,7 @@ module _ {U : Type 0} (lawful : U → PlainStore → Type 0) (allowed : U → Pl
             record { falls = omega arith; by_one = omega arith; kept = λ _. room }));
         untended = subst (λ (c : Sight U). IsUntended c (sight_of t)) come.same last.untended;
         names = last.names ∙ ap (λ (c : Sight U). c.roots) come.same;
+        room = room ∙ ap (λ (c : Sight U). c.room) come.same;
         place = ap (λ (l : List (Option Version)). get_or l r.0 None) last.roots ∙ come.place;
         keeps = last.keeps;
       }

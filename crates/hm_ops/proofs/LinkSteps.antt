@@ -28,23 +28,23 @@ use Rattle.hm_ops.specs.Resting.{IsAtPlace, Keeps}
 use Rattle.hm_ops.specs.Placing.{settled}
 use Rattle.hm_ops.specs.Walking.{GoesOn, HasCome, IsLast}
 use Rattle.hm_ops.specs.Storing.{Ends}
-use Rattle.hm_ops.proofs.OneStep.{keeps_none, room_kept, room_taken, roots_kept, same_sight, untended_kept}
+use Rattle.hm_ops.proofs.OneStep.{keeps_none, room_kept, room_taken, roots_kept, same_sight, site_kept, untended_kept}
 use Rattle.hm_ops.proofs.Settled.{HasTaken, OnceSettled, found_taken, new_taken, place_below, root_named, settled_keeps, settled_same, taken_hand}
 
 -- a link of 0 names none
-link_none : (at : Known) (found : Option Known) → IsLink at 0 found → found ≡ None
+pub link_none : (at : Known) (found : Option Known) → IsLink at 0 found → found ≡ None
 link_none at None h = refl
 link_none at (Some k) h = absurd (let e = h.0 in omega arith)
 
 -- what a link names that is not 0
-record Linked (at : Known) (next : Version) (found : Option Known) : Type 0 where
-  known : Known
-  is : found ≡ Some known
-  version : known.version ≡ next
-  same : known.name ≡ at.name
-  later : at.rank < known.rank
+pub record Linked (at : Known) (next : Version) (found : Option Known) : Type 0 where
+  pub known : Known
+  pub is : found ≡ Some known
+  pub version : known.version ≡ next
+  pub same : known.name ≡ at.name
+  pub later : at.rank < known.rank
 
-link_some : (at : Known) (next : Version) (found : Option Known) → IsLink at (next.0 + 1) found → Linked at
+pub link_some : (at : Known) (next : Version) (found : Option Known) → IsLink at (next.0 + 1) found → Linked at
     next found
 link_some at next None h = absurd (omega arith)
 link_some at next (Some k) h = record {
@@ -56,14 +56,14 @@ link_some at next (Some k) h = record {
 }
 
 -- less is left of a limit above a greater rank
-less_left : (limit was rank : ℕ) → rank < limit → was < rank → limit - rank < limit - was
+pub less_left : (limit was rank : ℕ) → rank < limit → was < rank → limit - rank < limit - was
 less_left limit was rank low more = omega arith
 
-where_none : {A : Type 0} (o : Option A) → where_zero o 0 ≡ o
+pub where_none : {A : Type 0} (o : Option A) → where_zero o 0 ≡ o
 where_none None = refl
 where_none (Some a) = refl
 
-where_more : {A : Type 0} (o : Option A) (n : ℕ) → where_zero o (n + 1) ≡ None
+pub where_more : {A : Type 0} (o : Option A) (n : ℕ) → where_zero o (n + 1) ≡ None
 where_more None n = refl
 where_more (Some a) n = ap (where_zero (Some a)) (add-one n)
 

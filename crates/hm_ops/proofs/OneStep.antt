@@ -1,5 +1,6 @@
 -- What one step leaves of a pass.
-use Rattle.std.proofs.Common.{◌≡◌, ◌<◌, ◌≤◌, ◌+◌, ◌*◌, ◌-◌, ℕ, if◌then◌else◌, List, [], ◌++◌, filter, length, map, take, append-nil, Option, None, sym, ap, ◌∙◌, subst, arith}
+use Rattle.std.proofs.Common.{◌≡◌, ◌<◌, ◌≤◌, ◌+◌, ◌*◌, ◌-◌, ℕ, Bool, true, if◌then◌else◌, List, [], ◌++◌, filter, get_or, length, map, take, append-nil, Option, None, refl, sym, ap, ◌∙◌, subst, arith, Contains}
+use Rattle.std.proofs.lemmas.List.Elements.{All-contains_itself}
 use Rattle.hm_shape.specs.declared.version.Version.{Version}
 use Rattle.hm_model.specs.declared.entry.Entry.{Entry}
 use Rattle.hm_model.specs.Store.{PlainStore}
@@ -11,8 +12,8 @@ use Rattle.hm_moves.specs.After.{count_of, seen_after}
 use Rattle.hm_moves.specs.Acts.{entry_of, listed, publishes}
 use Rattle.hm_moves.specs.Allowed.{free_count, kept_free}
 use Rattle.hm_moves.specs.Cycles.{has_masks, is_free}
-use Rattle.hm_cells.specs.Facts.{Facts, HasSpare, Made, Fits, IsSound, heap_of, room_of, sight_of}
-use Rattle.hm_cells.specs.Calls.{Takes}
+use Rattle.hm_cells.specs.Facts.{Facts, HasSpare, IsHeldAt, Made, Fits, IsSound, heap_of, room_of, sight_of, with_hand}
+use Rattle.hm_cells.specs.Calls.{Steps}
 use Rattle.hm_moves.proofs.Heaps.{IsWork}
 use Rattle.hm_cells.proofs.Stepped.{held_few}
 use Rattle.hm_cells.proofs.Working.{still_readied}
@@ -34,6 +35,31 @@ module _ {U : Type 0} (lawful : U → PlainStore → Type 0) (allowed : U → Pl
     sound = k.sound;
   }
 
+  -- it works where other held versions are in hand, of which there are few
+  pub handed_works : (s : Facts U) (m : Made U) (hand : List Version) → Works lawful allowed s m
+      → ((v : Version) → Contains hand v → IsHeldAt s v) → length hand ≤ most_working
+      → Works lawful allowed (with_hand s hand) m
+  handed_works s m hand k held few =
+      let sound = k.sound in
+      record {
+        fits = record { cells = k.fits.cells; site = k.fits.site };
+        hand = few;
+        few = k.few;
+        spare = k.spare;
+        sound = record {
+          sure = sound.sure;
+          old = sound.old;
+          listed = sound.listed;
+          counted = sound.counted;
+          cleared = sound.cleared;
+          scanned = sound.scanned;
+          apart = sound.apart;
+          wide = sound.wide;
+          rooted = sound.rooted;
+          handed = λ i d low. held (get_or hand i d) (All-contains_itself hand i d low);
+        };
+      }
+
   -- it rests again where nothing is in hand
   pub work_rests : (s : Facts U) (m : Made U) → Works lawful allowed s m → s.hand ≡ []
       → Keeps lawful allowed s m
@@ -42,7 +68,8 @@ module _ {U : Type 0} (lawful : U → PlainStore → Type 0) (allowed : U → Pl
     sound = k.sound;
   }
 
-  module _ (s t : Facts U) (act : Act) (x : ℕ) (took : Takes lawful allowed s act x t) where
+  module _ {scan : Bool} (s t : Facts U) (act : Act) (x : ℕ)
+      (took : Steps lawful allowed s scan act x t) where
     -- it is of the same heap
     pub site_kept : t.part.site ≡ s.part.site
     site_kept = ap (λ (f : Facts U). f.part.site) took.is

@@ -17,7 +17,7 @@ use Rattle.hm_ops.specs.Resting.{IsRootedOutside}
 use Rattle.hm_ops.specs.Walking.{ReadsInto, contents_at}
 
 -- an outer place is none of the hand's
-outside_other : (r hand : Root) (i : ℕ) → IsOutside r hand → i < 4 → r.0 ≢ hand.0 + i
+pub outside_other : (r hand : Root) (i : ℕ) → IsOutside r hand → i < 4 → r.0 ≢ hand.0 + i
 outside_other r hand i out low e = ⊎_elim (λ (a : r.0 < hand.0). absurd (omega arith))
     (λ (a : hand.0 + 4 ≤ r.0). absurd (omega arith)) out
 

@@ -1,5 +1,6 @@
 -- The references of a version, one after another, into the hand.
-use Rattle.std.proofs.Common.{◌≡◌, ◌<◌, ◌≤◌, ◌+◌, ◌^◌, ℕ, zero, suc, List, [], ◌∷◌, ◌++◌, length, get_or, map, Option, Some, None, IfSome, Contains, refl, sym, ap, ◌∙◌, subst, arith, inl, inr, length-append}
+use Rattle.std.proofs.Common.{◌≡◌, ◌<◌, ◌≤◌, ◌+◌, ◌^◌, ℕ, Bool, zero, suc, List, [], ◌∷◌, ◌++◌, length, get_or, map, Option, Some, None, IfSome, Contains, refl, sym, ap, ◌∙◌, subst, arith, inl, inr, append-nil, append_assoc, length-append}
+use Rattle.std.proofs.lemmas.List.Elements.{Contains-append_left, Contains-append_right}
 use native.Mathlib.Decide.{ℕ_discrete}
 use mathlib.Core.Logic.{dite}
 use Rattle.std.specs.Option.{option_to_list}
@@ -22,12 +23,12 @@ use Rattle.hm_cells.specs.Facts.{Facts, Made, IsSound, known_at, place_name}
 use Rattle.hm_cells.specs.Calls as call
 use Rattle.hm_cells.proofs.Fields.{hand_field, named_in, small_reference}
 use Rattle.hm_cells.proofs.Found.{at_place, same_version}
-use Rattle.hm_cells.proofs.Stepped.{found_held, kept_held, kept_stays, reference_look}
-use Rattle.hm_ops.specs.Resting.{IsKept, IsRooted, Keeps, Works, most_working}
-use Rattle.hm_ops.specs.Walking.{Stays, TakesReference, contents_at}
+use Rattle.hm_cells.proofs.Stepped.{found_held, kept_held, reference_look}
+use Rattle.hm_ops.specs.Resting.{IsKept, Works, most_working}
+use Rattle.hm_ops.specs.Walking.{Loads, Stays, TakesReference, contents_at}
 use Rattle.hm_ops.specs.Copying.{TakesReferences, given}
-use Rattle.hm_ops.proofs.OneStep.{roots_kept, same_sight, works_one}
-use Rattle.hm_ops.proofs.FieldLoads.{rooted_sized, same_list}
+use Rattle.hm_ops.proofs.OneStep.{works_one}
+use Rattle.hm_ops.proofs.FieldLoads.{kept_more, kept_sized, loads_field, loads_none, loads_then, same_list}
 use Rattle.hm_ops.proofs.Settled.{held_name}
 use Rattle.hm_moves.specs.Allowed.{done_limit}
 
@@ -48,6 +49,11 @@ contains_given (Some w ∷ vs) v (zero, low, is) = let same : w ≡ v = cc in (z
 contains_given (Some w ∷ vs) v (suc i, low, is) =
     let c = contains_given vs v (i, omega arith, is) in (suc c.0, (let less = c.1 in omega arith), c.2)
 
+given_few : (vs : List (Option Version)) → length (given vs) ≤ length vs
+given_few [] = omega arith
+given_few (None ∷ vs) = let h = given_few vs in omega arith
+given_few (Some v ∷ vs) = let h = given_few vs in omega arith
+
 one_at_most : (v : Option Version) → length (option_to_list v) ≤ 1
 one_at_most None = omega arith
 one_at_most (Some v) = omega arith
@@ -65,14 +71,14 @@ module _ {A : Type 0} where
 module _ {U : Type 0} (lawful : U → PlainStore → Type 0) (allowed : U → PlainStore → Entry → Type 0)
     (m : Made U) where
   -- one load
-  module _ (s t : Facts U) (v : Version) (i x : ℕ) (k : Works lawful allowed s m)
-      (after : IsSound lawful allowed t) (rooted : IsRooted s v) (low : i < 4)
-      (loaded : call.Takes lawful allowed s (Looks (field_look (known_at s v) (2 + i))) x t) where
+  module _ {scan : Bool} (s t : Facts U) (v : Version) (i x : ℕ) (k : Works lawful allowed s m)
+      (after : IsSound lawful allowed t) (kept : IsKept s v) (low : i < 4)
+      (loaded : call.Steps lawful allowed s scan (Looks (field_look (known_at s v) (2 + i))) x t) where
     abbrev act : Act
     act = Looks (LoadReference (known_at s v) i)
 
-    took : call.Takes lawful allowed s act x t
-    took = subst (λ (l : Look). call.Takes lawful allowed s (Looks l) x t) (reference_look (known_at s v) i low) loaded
+    took : call.Steps lawful allowed s scan act x t
+    took = subst (λ (l : Look). call.Steps lawful allowed s scan (Looks l) x t) (reference_look (known_at s v) i low) loaded
 
     fit : (found : Option Known) → IfSome found (Contains t.part.hands.held)
         → IfSome found (IsFit t.part.site.shape (done_limit t.part))
@@ -117,13 +123,9 @@ module _ {U : Type 0} (lawful : U → PlainStore → Type 0) (allowed : U → Pl
               ∙ (held_name t n.version held.0 ∙ (ap (λ (z : Known). Some z.name) held.1 ∙ sym h.1))
 
       -- what the reference names is in hand
-      pub takes_one : TakesReference s v i named t
+      pub takes_one : TakesReference s v i scan named t
       takes_one = record {
-        stays = record {
-          same = same_sight lawful allowed s t act x took tt refl refl;
-          roots = roots_kept lawful allowed s t act x took;
-          known = kept_stays lawful allowed s t act x k.sound after took;
-        };
+        loads = loads_field lawful allowed m s t v x k after kept (LoadReference (known_at s v) i) took refl refl refl;
         hand = hand;
         name = name;
       }
@@ -146,54 +148,56 @@ module _ {U : Type 0} (lawful : U → PlainStore → Type 0) (allowed : U → Pl
       ∙ sym (held_name s w (kept_held lawful allowed s w sound kept)))
 
   -- several
-  module _ (s : Facts U) (v : Version) (rest : Keeps lawful allowed s m) (rooted : IsRooted s v) where
+  module _ (s : Facts U) (v : Version) (scan : Bool) (works : Works lawful allowed s m) (is_kept : IsKept s v) where
     -- what so many references name is in hand
     pub record TakesSome (vs : List (Option Version)) (t : Facts U) : Type 0 where
-      pub stays : Stays s t
-      pub hand : t.hand ≡ given vs
+      pub loads : Loads s v scan t
+      pub hand : t.hand ≡ s.hand ++ given vs
       pub names : (i : ℕ) → i < length vs
           → place_name t.part.hands.held (get_or vs i None) ≡ reference_at (contents_at s v) i
 
     -- none at first
     pub takes_none : TakesSome [] s
     takes_none = record {
-      stays = record {
-        same = refl;
-        roots = refl;
-        known = λ w kept. (kept_held lawful allowed s w rest.sound kept, refl);
-      };
-      hand = rest.resting.rest.hand;
+      loads = loads_none lawful allowed m s v scan works.sound;
+      hand = sym (append-nil s.hand);
       names = λ i low. absurd (omega arith);
     }
 
-    module _ (vs : List (Option Version)) (w : Option Version) (t u : Facts U) (sound : IsSound lawful allowed t)
-        (before : TakesSome vs t) (one : TakesReference t v (length vs) w u) where
-      kept : (x : Version) → IsKept s x → IsKept t x
-      kept x (inl (r, at)) =
-          inl (r, ap (λ (l : List (Option Version)). get_or l r None) before.stays.roots ∙ at)
-      kept x (inr c) =
-          let none : Contains [] x = subst (λ (l : List Version). Contains l x) rest.resting.rest.hand c in
-          absurd (let low = none.1 in omega arith)
+    -- the version is kept meanwhile
+    pub some_kept : (vs : List (Option Version)) (t : Facts U) → TakesSome vs t → IsKept t v
+    some_kept vs t some = kept_more s t some.loads.stays.roots
+        (λ x c. subst (λ (l : List Version). Contains l x) (sym some.hand) (Contains-append_left s.hand (given vs) x c))
+        v is_kept
 
+    -- and the hand has at most so many more
+    pub some_few : (vs : List (Option Version)) (t : Facts U) → TakesSome vs t
+        → length t.hand ≤ length s.hand + length vs
+    some_few vs t some =
+        let more : length t.hand ≡ length s.hand + length (given vs) =
+        ap (λ (l : List Version). length l) some.hand ∙ length-append s.hand (given vs) in
+        let few = given_few vs in omega (arith, more, few)
+
+    module _ (vs : List (Option Version)) (w : Option Version) (t u : Facts U) (sound : IsSound lawful allowed t)
+        (before : TakesSome vs t) (one : TakesReference t v (length vs) scan w u) where
       handed : (i : ℕ) (o : Option Version) → get_or vs i None ≡ o → IfSome o (IsKept t)
       handed i None e = tt
       handed i (Some x) e = inr (subst (λ (l : List Version). Contains l x) (sym before.hand)
-          (contains_given vs x (at_place vs i (Some x) None e (λ none. cc))))
+          (Contains-append_right s.hand (given vs) x
+          (contains_given vs x (at_place vs i (Some x) None e (λ none. cc)))))
 
       same_reference : (i : ℕ) → reference_at (contents_at t v) i ≡ reference_at (contents_at s v) i
-      same_reference i = ap (λ (n : Known). reference_at n.contents i) (before.stays.known v (inl rooted)).1
+      same_reference i = ap (λ (n : Known). reference_at n.contents i) (before.loads.stays.known v is_kept).1
 
       -- one more by each load
       pub takes_more : TakesSome (vs ++ w ∷ []) u
       takes_more = record {
-        stays = record {
-          same = one.stays.same ∙ before.stays.same;
-          roots = one.stays.roots ∙ before.stays.roots;
-          known = λ x k. let still = one.stays.known x (kept x k) in
-              (still.0, still.1 ∙ (before.stays.known x k).1);
-        };
+        loads = loads_then lawful allowed m s t u v scan
+            (λ x c. subst (λ (l : List Version). Contains l x) (sym before.hand)
+            (Contains-append_left s.hand (given vs) x c)) before.loads one.loads;
         hand = one.hand ∙ (ap (λ (l : List Version). l ++ option_to_list w) before.hand
-            ∙ sym (given_more vs w));
+            ∙ (append_assoc s.hand (given vs) (option_to_list w)
+            ∙ ap (λ (l : List Version). s.hand ++ l) (sym (given_more vs w))));
         names = λ i low. dite (ℕ_discrete i (length vs))
             (λ (e : i ≡ length vs).
             ap (λ (j : ℕ). place_name u.part.hands.held (get_or (vs ++ w ∷ []) j None)) e
@@ -201,7 +205,7 @@ module _ {U : Type 0} (lawful : U → PlainStore → Type 0) (allowed : U → Pl
             ∙ (one.name ∙ (same_reference (length vs) ∙ ap (reference_at (contents_at s v)) (sym e)))))
             (λ ne. let less : i < length vs = last_or_less i ne low in
             ap (place_name u.part.hands.held) (before_last vs w None i less)
-            ∙ (name_stays t u (get_or vs i None) sound one.stays (handed i (get_or vs i None) refl)
+            ∙ (name_stays t u (get_or vs i None) sound one.loads.stays (handed i (get_or vs i None) refl)
             ∙ before.names i less));
       }
         where
@@ -211,17 +215,16 @@ module _ {U : Type 0} (lawful : U → PlainStore → Type 0) (allowed : U → Pl
 
     -- all four
     pub takes_all : (vs : List (Option Version)) (t : Facts U) → length vs ≡ 4 → TakesSome vs t
-        → Works lawful allowed t m → TakesReferences lawful allowed m s v vs t
-    takes_all vs t four some works = record {
-      stays = some.stays;
+        → TakesReferences s v scan vs t
+    takes_all vs t four some = record {
+      loads = some.loads;
       hand = some.hand;
       names =
           let refs = (contents_at s v).refs in
           let named = place_name t.part.hands.held in
-          let sized = (rooted_sized lawful allowed m s v rest rooted).four in
+          let sized = (kept_sized lawful allowed m s v works.sound is_kept).four in
           same_list (map named vs) refs 4 None (length-map vs named ∙ four) sized
           (λ i low. get_named vs named i ∙ some.names i (omega arith));
-      works = works;
     }
       where
         get_named : (xs : List (Option Version)) (f : Option Version → Option Name) (i : ℕ)

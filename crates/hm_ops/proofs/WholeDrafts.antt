@@ -168,6 +168,8 @@ module _ {U : Type 0} (lawful : U → PlainStore → Type 0) (allowed : U → Pl
       roots = wrote.roots;
       hand = wrote.hand;
       known = wrote.known;
+      steady = wrote.steady;
+      still = wrote.still;
       whole = record {
         link = wrote.top 0 (omega arith) (omega arith) (inr (inl refl));
         built = record {

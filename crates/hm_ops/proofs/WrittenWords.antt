@@ -18,8 +18,10 @@ use Rattle.hm_cells.specs.Calls.{Takes}
 use Rattle.hm_cells.proofs.Found.{found_there}
 use Rattle.hm_cells.proofs.Stepped.{held_lookable, kept_held, kept_stays, known_version, written_here, written_stays}
 use Rattle.hm_ops.specs.Resting.{IsKept, Works}
+use Rattle.hm_ops.specs.Steady.{IsSteady, IsStill}
 use Rattle.hm_ops.specs.Writing.{Lasts, NamesKept, Writes, reference_word}
 use Rattle.hm_ops.proofs.OneStep.{hand_kept, roots_kept, same_sight, works_none}
+use Rattle.hm_ops.proofs.ScanSteps.{steady_step, steady_then, still_then, store_still}
 use Rattle.hm_ops.proofs.Settled.{held_known}
 
 module _ {U : Type 0} where
@@ -74,6 +76,8 @@ module _ {U : Type 0} where
         → IsWritten t.part.draft.written (first + i) (slice_index head i)
     pub refs : (i : ℕ) → i < 4 → IsWritten t.part.draft.written (2 + i) (slice_index words i)
     pub values : (i : ℕ) → i < 10 → IsWritten t.part.draft.written (6 + i) (slice_index numbers i)
+    pub steady : IsSteady s t
+    pub still : IsStill s t
 
   -- they are where each part was
   pub writes_all : (s t1 t2 t3 : Facts U) (first : ℕ) (head words numbers : List ℕ) → length words ≡ 4
@@ -98,6 +102,8 @@ module _ {U : Type 0} where
             three.below (2 + i) (slice_index words i) (omega arith)
             (words_last s t2 words roots2 hand2 all (2 + i) i (omega arith)) (two.here i (omega arith));
         values = λ i low. three.here i (omega arith);
+        steady = steady_then s t2 t3 (steady_then s t1 t2 one.steady two.steady) three.steady;
+        still = still_then s t2 t3 (still_then s t1 t2 one.still two.still) three.still;
       }
 
 same_store : (i j w x : ℕ) → Builds (StoreOwn i w) ≡ Builds (StoreOwn j x) → i ≡ j
@@ -152,6 +158,9 @@ module _ {U : Type 0} (lawful : U → PlainStore → Type 0) (allowed : U → Pl
           (back (first + i) (slice_index words i) (lasts i less)) (before.here i (omega arith)));
       below = λ j x less safe was. stays j x (λ e. omega arith) (back j x safe)
           (before.below j x less safe was);
+      steady = steady_then s t u before.steady
+          (steady_step lawful allowed t u (Builds (StoreOwn (first + n) w)) w took tt refl refl);
+      still = still_then s t u before.still (store_still lawful allowed t u (first + n) w took);
     }
       where
         back : (j x : ℕ) → Lasts s j x → Lasts t j x

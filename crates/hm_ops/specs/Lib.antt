@@ -1,7 +1,9 @@
 pub mod Resting
 pub mod Placing
+pub mod Turning
+pub mod Steady
 pub mod Walking
 pub mod Writing
 pub mod Storing
 pub mod Copying
-pub mod Turning
+pub mod Bringing

@@ -14,6 +14,7 @@ use Rattle.hm_cells.specs.Calls.{IsWholeCopy}
 use Rattle.hm_ops.specs.declared.replacing.Attempt.{Attempt}
 use Rattle.hm_ops.specs.declared.replacing.Attempt.TheVariants as attempt
 use Rattle.hm_ops.specs.Resting.{IsKept, Keeps}
+use Rattle.hm_ops.specs.Steady.{IsSteady, IsStill}
 use Rattle.hm_ops.specs.Walking.{GoesOn}
 
 module _ {U : Type 0} where
@@ -29,6 +30,8 @@ module _ {U : Type 0} where
     pub hand : t.hand ≡ s.hand
     pub known : (v : Version) → IsKept s v → known_at t v ≡ known_at s v
     pub whole : IsWholeCopy t.part x
+    pub steady : IsSteady s t
+    pub still : IsStill s t
 
   module _ (lawful : U → PlainStore → Type 0) (allowed : U → PlainStore → Entry → Type 0)
       (m : Made U) where

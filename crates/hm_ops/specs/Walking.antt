@@ -1,5 +1,5 @@
 -- Walks along links, and loads of what a version holds.
-use Rattle.std.specs.Prelude.{◌≡◌, ◌≢◌, ℕ, ◌-◌, ◌<◌, ◌++◌, Option, Some, None, slice_index_or}
+use Rattle.std.specs.Prelude.{◌≡◌, ◌≢◌, ℕ, ◌-◌, ◌<◌, ◌++◌, Bool, Option, Some, None, slice_index_or}
 use Rattle.std.specs.Option.{option_to_list}
 use Rattle.hm_shape.specs.declared.version.Version.{Version}
 use Rattle.hm_moves.specs.Places.{rank_limit}
@@ -13,6 +13,7 @@ use Rattle.hm_moves.specs.Chain.{reference_at}
 use Rattle.hm_cells.specs.Facts.{Facts, Made, most_cycles, IsHeldAt, known_at, names_at, place_name, room_of, sight_of}
 use Rattle.hm_cells.specs.Calls.{Tells}
 use Rattle.hm_ops.specs.Resting.{IsAtPlace, IsKept, Keeps}
+use Rattle.hm_ops.specs.Steady.{IsSteady, IsStill, ScansFrom}
 
 module _ {U : Type 0} where
   -- what a version holds, as its pass knows it
@@ -30,10 +31,17 @@ module _ {U : Type 0} where
     pub roots : t.roots ≡ s.roots
     pub known : (v : Version) → IsKept s v → IsHeldAt t v × (known_at t v ≡ known_at s v)
 
-  -- what a reference of a version names is in hand
-  pub record TakesReference (s : Facts U) (v : Version) (i : ℕ) (named : Option Version)
-      (t : Facts U) : Type 0 where
+  -- a load of a field does no more than that, and a scan's load from from-space leaves the scan as
+  -- it is
+  pub record Loads (s : Facts U) (v : Version) (scan : Bool) (t : Facts U) : Type 0 where
     pub stays : Stays s t
+    pub steady : IsSteady s t
+    pub still : ScansFrom s v scan → IsStill s t
+
+  -- what a reference of a version names is in hand
+  pub record TakesReference (s : Facts U) (v : Version) (i : ℕ) (scan : Bool)
+      (named : Option Version) (t : Facts U) : Type 0 where
+    pub loads : Loads s v scan t
     pub hand : t.hand ≡ s.hand ++ option_to_list named
     pub name : place_name t.part.hands.held named ≡ reference_at (contents_at s v) i
 
@@ -44,6 +52,7 @@ module _ {U : Type 0} where
       pub fetch : Fetches lawful allowed (sight_of s) (sight_of t) r (contents_at t v)
       pub untended : IsUntended (sight_of s) (sight_of t)
       pub names : names_at t ≡ names_at s
+      pub room : room_of t.part ≡ room_of s.part
       pub place : IsAtPlace t r.0 v
       pub keeps : Keeps lawful allowed t m
 

@@ -11,6 +11,7 @@ use Rattle.hm_moves.specs.Allowed.{IsWritten}
 use Rattle.hm_cells.specs.Facts.{Facts, known_at, place_name, sight_of}
 use Rattle.hm_cells.specs.Calls.{IsWhole, drafted_numbers, drafted_refs, version_in}
 use Rattle.hm_ops.specs.Resting.{IsKept}
+use Rattle.hm_ops.specs.Steady.{IsSteady, IsStill}
 
 -- what each root place names
 abbrev pub Roots : Type 0
@@ -50,6 +51,8 @@ module _ {U : Type 0} where
         → IsWritten t.part.draft.written (first + i) (slice_index words i)
     pub below : (j w : ℕ) → j < first → Lasts s j w → IsWritten s.part.draft.written j w
         → IsWritten t.part.draft.written j w
+    pub steady : IsSteady s t
+    pub still : IsStill s t
 
   -- the caller's next version is written whole, with these references and numbers
   pub record Drafts (s : Facts U) (refs : Places) (numbers : Numbers) (t : Facts U)

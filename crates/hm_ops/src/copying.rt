@@ -1,13 +1,15 @@
-//! Changed copies of a version.
-ghost use Rattle.std.specs.Prelude.{◌≡◌, [], map};
+//! Copies of a version, changed or as it is.
+ghost use Rattle.std.specs.Prelude.{◌≡◌, ◌+◌, ◌++◌, ◌≤◌, List, length, map};
+ghost use Rattle.hm_shape.specs.declared.version.Version.{Version};
 ghost use Rattle.hm_shape.specs.Words.{naming_word};
 ghost use Rattle.hm_moves.specs.Allowed.{HasRoom};
 ghost use Rattle.hm_cells.specs.Calls.{MayChange};
 ghost use Rattle.hm_cells.specs.Facts.{with_hand};
-ghost use Rattle.hm_ops.specs.Resting.{IsRooted, Keeps, Works};
-ghost use Rattle.hm_ops.specs.Copying.{CopiesChanged, TakesReferences, given};
+ghost use Rattle.hm_ops.specs.Resting.{IsKept, IsRooted, Keeps, Works, most_working};
+ghost use Rattle.hm_ops.specs.Copying.{CopiesChanged, CopiesSame, given, reordered};
 
-use crate::reading::{read_numbers, read_stamp, take_reference};
+use crate::loading::{load_numbers, load_stamp, take_references};
+use crate::reading::{read_numbers, read_stamp};
 use crate::writing::{reference_word, word_of, write_copy};
 use hm_cells::{Cells, Pass, WantField};
 use hm_model::Usage;
@@ -31,33 +33,31 @@ pub(crate) fn copy_changed<U: Usage>(
     let stamp = read_stamp(cells, pass, v);
     let mut numbers = read_numbers(cells, pass, v);
     // In hand until the copy is written: a word counts as written only while what it names is held.
-    let named = take_references(cells, pass, v);
+    let named = take_references(cells, pass, v, false);
     let mut words = words_of(named);
     match field {
         WantField::Number { i, value } => numbers[i as usize] = value,
         WantField::Refer { i, value } => words[i as usize] = reference_word(pass, value),
     }
-    write_copy(cells, pass, stamp, words, numbers);
+    write_copy(cells, pass, stamp + 1, words, numbers);
     // Only now, and without a step: what the words name is held still when the copy is linked.
     release_all(pass, named);
 }
 
-// Takes what the references of a version name into the hand.
-fn take_references<U: Usage>(
-    cells: &Cells<U>,
-    pass: &mut Pass<U>,
-    v: Version,
-) -> [Option<Version>; 4]
-    requires keeps { Keeps U.lawful U.allowed pass.old cells.now }
-    requires rooted { IsRooted pass.old v }
-    ensures takes { TakesReferences U.lawful U.allowed cells.now pass.old v result pass.new }
+/// Writes the caller's next version as a copy of a version, with the stamp that it has.
+pub(crate) fn copy_same<U: Usage>(cells: &Cells<U>, pass: &mut Pass<U>, v: Version, scan: bool)
+    requires works { Works U.lawful U.allowed pass.old cells.now }
+    requires hand { length pass.old.hand + 4 ≤ most_working }
+    requires kept { IsKept pass.old v }
+    requires room { HasRoom pass.old.part }
+    ensures copies { CopiesSame pass.old v scan pass.new }
+    ensures works { Works U.lawful U.allowed pass.new cells.now }
 {
-    [
-        take_reference(cells, pass, v, 0),
-        take_reference(cells, pass, v, 1),
-        take_reference(cells, pass, v, 2),
-        take_reference(cells, pass, v, 3),
-    ]
+    let stamp = load_stamp(cells, pass, v, scan);
+    let numbers = load_numbers(cells, pass, v, scan);
+    let named = take_references(cells, pass, v, scan);
+    write_copy(cells, pass, stamp, words_of(named), numbers);
+    release_all(pass, named);
 }
 
 // The words that name these versions.
@@ -68,10 +68,12 @@ fn words_of(named: [Option<Version>; 4]) -> [u64; 4]
     [word_of(a), word_of(b), word_of(c), word_of(d)]
 }
 
-// Releases all that is in hand: what the references name.
+// Releases what these references name, which came into the hand last. Of a version that was there before the first one
+// goes.
 fn release_all<U: Usage>(pass: &mut Pass<U>, references: [Option<Version>; 4])
-    requires { pass.old.hand ≡ given references }
-    ensures { pass.new ≡ with_hand pass.old [] }
+    requires { (hand : List Version) × (pass.old.hand ≡ hand ++ given references) }
+    ensures { (hand : List Version) → pass.old.hand ≡ hand ++ given references
+        → pass.new ≡ with_hand pass.old (reordered (given references) hand) }
 {
     for named in references {
         if let Some(v) = named {

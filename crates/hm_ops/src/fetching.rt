@@ -5,6 +5,7 @@ ghost use Rattle.hm_model.specs.Calls.{FetchesAll, FetchesNumber, FetchesRef, Is
 ghost use Rattle.hm_cells.specs.Facts.{sight_of};
 ghost use Rattle.hm_ops.specs.Resting.{IsResting, Keeps};
 
+use crate::bringing::copy_behind;
 use crate::reading::{read_number, read_numbers, read_reference, read_references, read_stamp};
 use crate::walking::walk;
 use hm_cells::{Cells, Pass};
@@ -29,6 +30,8 @@ pub fn fetch<U: Usage>(cells: &Cells<U>, pass: &mut Pass<U>, from: Root, hand: R
     let stamp = read_stamp(cells, pass, at);
     let numbers = read_numbers(cells, pass, at);
     let set = read_references(cells, pass, at, hand);
+    // Last, since the place may name another version then.
+    copy_behind(cells, pass, from, at);
     Snapshot {
         stamp,
         numbers,
@@ -47,7 +50,9 @@ pub fn fetch_number<U: Usage>(cells: &Cells<U>, pass: &mut Pass<U>, from: Root, 
     ensures keeps { Keeps U.lawful U.allowed pass.new cells.now }
 {
     let at = walk(cells, pass, from);
-    read_number(cells, pass, at, i)
+    let number = read_number(cells, pass, at, i);
+    copy_behind(cells, pass, from, at);
+    number
 }
 
 /// Reads reference `i`, below 4, of the object that a place names, into another place. Where there is none, that place
@@ -70,5 +75,7 @@ pub fn fetch_ref<U: Usage>(
     ensures keeps { Keeps U.lawful U.allowed pass.new cells.now }
 {
     let at = walk(cells, pass, from);
-    read_reference(cells, pass, at, i, into)
+    let is_some = read_reference(cells, pass, at, i, into);
+    copy_behind(cells, pass, from, at);
+    is_some
 }

@@ -28,6 +28,11 @@
 //! join, and one more where it has not joined a cycle. Where no others are Free, the call answers `Full`, before it
 //! takes a step. [`turn`] does the same by itself, and shows nothing to others but the counts of places and regions.
 //!
+//! A fetch by a caller that knows the roles of all callers in a cycle copies out of from-space what it has read, if that
+//! is there and it has room: [`copy_out`]. That is a version more of the object, with the same contents and stamp, and
+//! makes no entry. [`bring_out`] is the search behind it, from any version that is kept, and [`settle`] puts the version
+//! that it finds at a root place.
+//!
 //! Each call returns, since ranks rise along links, and no rank reaches a limit that the heap's shape gives
 //! (`specs/Walking.antt`).
 //!
@@ -35,10 +40,12 @@
 //! or waits.
 #![tactic(auto)]
 
+mod bringing;
 mod copying;
 mod creating;
 mod fetching;
 mod linking;
+mod loading;
 mod placing;
 #[cfg(test)]
 mod racing;
@@ -53,8 +60,10 @@ mod turning;
 mod walking;
 mod writing;
 
+pub use bringing::{Brought, Copied, bring_out, copy_out};
 pub use creating::create;
 pub use fetching::{fetch, fetch_number, fetch_ref};
+pub use placing::settle;
 pub use replacing::store_if;
 pub use storing::{store_number, store_ref};
 pub use turning::{NoFree, turn};

@@ -7,7 +7,7 @@ use hm_model::{Root, Usage};
 use hm_shape::Version;
 
 /// A root place then names this version, which is in hand, and is released.
-pub(crate) fn settle<U: Usage>(pass: &mut Pass<U>, into: Root, v: Version)
+pub fn settle<U: Usage>(pass: &mut Pass<U>, into: Root, v: Version)
     requires place { into.0 < 256 }
     requires hand { IsInHand pass.old v }
     ensures { Settles pass.old into v pass.new }

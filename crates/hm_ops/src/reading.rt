@@ -1,15 +1,17 @@
-//! Loads of what a version holds.
-ghost use Rattle.std.specs.Prelude.{◌≡◌, ◌+◌, ◌<◌, ◌≤◌, is_some, length, map, slice_index};
+//! Loads of what a version holds, by a pass at rest.
+ghost use Rattle.std.specs.Prelude.{◌≡◌, ◌+◌, ◌<◌, ◌≤◌, None, is_some, map, slice_index, slice_index_or};
 ghost use Rattle.hm_model.specs.Sight.{Rests, SetsHand};
+ghost use Rattle.hm_model.specs.Calls.{IsOutside};
 ghost use Rattle.hm_moves.specs.Chain.{reference_at};
 ghost use Rattle.hm_cells.specs.Facts.{sight_of};
-ghost use Rattle.hm_ops.specs.Resting.{IsRooted, IsRootedBeside, IsRootedOutside, Keeps, Works, most_working};
-ghost use Rattle.hm_ops.specs.Walking.{Reads, ReadsInto, TakesReference, contents_at};
+ghost use Rattle.hm_ops.specs.Resting.{IsRooted, IsRootedBeside, IsRootedOutside, Keeps};
+ghost use Rattle.hm_ops.specs.Walking.{Reads, ReadsInto, contents_at};
 
+use crate::loading::{load_number, load_numbers, load_stamp, take_reference};
 use crate::placing::settle;
-use hm_cells::{Cells, Pass, load_field};
+use hm_cells::{Cells, Pass};
 use hm_model::{Root, Usage};
-use hm_shape::{FIRST_NUMBER, FIRST_REFERENCE, STAMP, Version};
+use hm_shape::Version;
 
 /// The stamp of a version.
 pub(crate) fn read_stamp<U: Usage>(cells: &Cells<U>, pass: &mut Pass<U>, v: Version) -> u64
@@ -19,7 +21,7 @@ pub(crate) fn read_stamp<U: Usage>(cells: &Cells<U>, pass: &mut Pass<U>, v: Vers
     ensures small { result < u64.MAX }
     ensures reads { Reads U.lawful U.allowed cells.now pass.old v pass.new }
 {
-    load_field(cells, pass, v, STAMP, false)
+    load_stamp(cells, pass, v, false)
 }
 
 /// Number `i` of a version.
@@ -30,7 +32,7 @@ pub(crate) fn read_number<U: Usage>(cells: &Cells<U>, pass: &mut Pass<U>, v: Ver
     ensures value { result ≡ slice_index (contents_at pass.old v).numbers i }
     ensures reads { Reads U.lawful U.allowed cells.now pass.old v pass.new }
 {
-    load_field(cells, pass, v, FIRST_NUMBER + i, false)
+    load_number(cells, pass, v, i, false)
 }
 
 /// All numbers of a version.
@@ -40,30 +42,7 @@ pub(crate) fn read_numbers<U: Usage>(cells: &Cells<U>, pass: &mut Pass<U>, v: Ve
     ensures value { result ≡ (contents_at pass.old v).numbers }
     ensures reads { Reads U.lawful U.allowed cells.now pass.old v pass.new }
 {
-    let mut numbers = [0; 10];
-    // In any order, and beside any store: no word of a published version changes.
-    for i in 0..10u32 {
-        numbers[i as usize] = read_number(cells, pass, v, i);
-    }
-    numbers
-}
-
-/// Takes what reference `i` of a version names into the hand.
-pub(crate) fn take_reference<U: Usage>(
-    cells: &Cells<U>,
-    pass: &mut Pass<U>,
-    v: Version,
-    i: u32,
-) -> Option<Version>
-    requires works { Works U.lawful U.allowed pass.old cells.now }
-    requires hand { length pass.old.hand < most_working }
-    requires rooted { IsRooted pass.old v }
-    requires reference { i < 4 }
-    ensures takes { TakesReference pass.old v i result pass.new }
-    ensures works { Works U.lawful U.allowed pass.new cells.now }
-{
-    let word = load_field(cells, pass, v, FIRST_REFERENCE + i, false);
-    Version::named(word)
+    load_numbers(cells, pass, v, false)
 }
 
 /// Loads reference `i` of a version into a place, and answers whether there is one.
@@ -81,7 +60,7 @@ pub(crate) fn read_reference<U: Usage>(
     ensures value { result ≡ is_some (reference_at (contents_at pass.old v) i) }
     ensures reads { ReadsInto U.lawful U.allowed cells.now pass.old v i into.0 pass.new }
 {
-    match take_reference(cells, pass, v, i) {
+    match take_reference(cells, pass, v, i, false) {
         Some(next) => {
             // What the place named before may be let go of then, but not `v`, which another place names.
             settle(pass, into, next);
@@ -107,6 +86,8 @@ pub(crate) fn read_references<U: Usage>(
     ensures value { result ≡ map is_some (contents_at pass.old v).refs }
     ensures names { SetsHand (sight_of pass.old) (sight_of pass.new) hand.0
         (contents_at pass.old v).refs }
+    ensures places { (r : Root) → IsOutside r hand
+        → slice_index_or pass.new.roots r.0 None ≡ slice_index_or pass.old.roots r.0 None }
     ensures same { Rests (sight_of pass.old) (sight_of pass.new) }
     ensures keeps { Keeps U.lawful U.allowed pass.new cells.now }
 {

@@ -34,8 +34,8 @@ pub(crate) fn draft<U: Usage>(
     write(cells, pass, FIRST_NUMBER, &numbers);
 }
 
-/// Writes the caller's next version as a changed copy of one with this stamp, which is raised, and these words of
-/// references and numbers. Its link is 0.
+/// Writes the caller's next version as a copy of another, with this stamp and these words of references and numbers.
+/// Its link is 0.
 pub(crate) fn write_copy<U: Usage>(
     cells: &Cells<U>,
     pass: &mut Pass<U>,
@@ -45,17 +45,16 @@ pub(crate) fn write_copy<U: Usage>(
 )
     requires works { Works U.lawful U.allowed pass.old cells.now }
     requires room { HasRoom pass.old.part }
-    requires stamp { stamp < u64.MAX }
     requires kept { All (NamesKept pass.old) words }
     ensures copies { Copies pass.old record {
-      stamp = stamp + 1;
+      stamp = stamp;
       refs = map (name_by pass.old) words;
       numbers = numbers;
     } pass.new }
     ensures works { Works U.lawful U.allowed pass.new cells.now }
 {
     // The link is 0 before the exchange: whoever comes to the copy loads its link, and goes where that leads.
-    write(cells, pass, LINK, &[0, stamp + 1]);
+    write(cells, pass, LINK, &[0, stamp]);
     write(cells, pass, FIRST_REFERENCE, &words);
     write(cells, pass, FIRST_NUMBER, &numbers);
 }
@@ -82,7 +81,7 @@ pub(crate) fn rewrite<U: Usage>(
 {
     // As in draft: the places name these versions until the exchange.
     let words = reference_words(pass, refs);
-    write_copy(cells, pass, stamp, words, numbers);
+    write_copy(cells, pass, stamp + 1, words, numbers);
 }
 
 // The words of references to what the given places name.

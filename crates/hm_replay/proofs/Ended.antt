@@ -20,7 +20,8 @@ use Rattle.hm_cellbook.specs.declared.usage.BookUsage.{BookUsage}
 use Rattle.hm_cellbook.specs.Fetched.{book_allowed, book_lawful}
 use Rattle.hm_moves.specs.declared.part.Site.{Site}
 use Rattle.hm_cells.specs.declared.closing.Counts.{Counts}
-use Rattle.hm_cells.specs.Facts.{Facts, Made, sight_of}
+use Rattle.hm_cells.specs.Facts.{Facts, Made}
+use Rattle.hm_heap.specs.Tending.{working_sight}
 use Rattle.hm_cells.specs.Closing.{AreAll, CarriesPass, Ended, EndsIn, HeldToTheEnd, IsWholeHistory, counts_of}
 use Rattle.hm_desk.specs.declared.desk.Worked.{Worked}
 use Rattle.hm_desk.specs.Progress.{dones_seen, last_root, state_seen}
@@ -160,8 +161,8 @@ first_full settings e n heap files count m site before back came all ends worked
     let same : get_or back k s.0 ≡ s.0 = get_or_from_slice_get back k s.0 s.0 s.1 in
     let end : EndsIn e s.0 = subst (EndsIn e) same (ends k s.0 (slice_get_within back k s.0 s.1)) in
     let work = worked.each k s.0 file.0 st.its s.1 file.1 st.here in
-    let up : IsUsedUp (sight_of s.0) at.used at.free =
-    subst (λ (w : Worked). IfStalled w (λ place. IsUsedUp (sight_of s.0))) st.worked work.up in
+    let up : IsUsedUp (working_sight s.0) at.used at.free =
+    subst (λ (w : Worked). IfStalled w (λ place. IsUsedUp (working_sight s.0))) st.worked work.up in
     let noted : slice_get e.counts k ≡ Some (counts_of s.0) =
     subst (λ (q : ℕ). slice_get e.counts q ≡ Some (counts_of s.0)) (all.numbers k s.0 s.1) end.counts in
     record {

@@ -9,7 +9,8 @@ use Rattle.hm_model.specs.Sight.{IsSameCaller}
 use Rattle.hm_book.specs.declared.limits.Limits.{Limits}
 use Rattle.hm_cellbook.specs.declared.usage.BookUsage.{BookUsage}
 use Rattle.hm_cells.specs.Closing.{AreAll}
-use Rattle.hm_cells.specs.Facts.{Facts, IsAtRest, Made, sight_of}
+use Rattle.hm_cells.specs.Facts.{Facts, IsAtRest, Made}
+use Rattle.hm_heap.specs.Tending.{working_sight}
 use Rattle.hm_ops.specs.Resting.{IsResting}
 use Rattle.hm_heap.specs.Mutators.{AreSameCallers}
 use Rattle.hm_replay.specs.declared.conclusion.Came.{Came}
@@ -107,8 +108,8 @@ module _ (limits : Limits) (passes : List (Facts BookUsage)) (files : List (List
         (slice_get old k) j.was j.was_here (are k)).0 in
         let first : s ≡ j.was.pass = cc in
         let then : j.now.pass ≡ t = at_mapped (λ (j : Working). j.pass) new k j.now t j.now_here is in
-        subst (λ (x : Facts BookUsage). IsSameCaller (sight_of x) (sight_of t)) (sym first)
-        (subst (λ (x : Facts BookUsage). IsSameCaller (sight_of j.was.pass) (sight_of x)) then j.work.caller);
+        subst (λ (x : Facts BookUsage). IsSameCaller (working_sight x) (working_sight t)) (sym first)
+        (subst (λ (x : Facts BookUsage). IsSameCaller (working_sight j.was.pass) (working_sight x)) then j.work.caller);
   }
 
   -- and each has come to something with the orders of its file

@@ -14,7 +14,8 @@ use Rattle.hm_cellbook.specs.declared.usage.BookUsage.{BookUsage}
 use Rattle.hm_cellbook.specs.Fetched.{book_allowed, book_lawful}
 use Rattle.hm_moves.specs.declared.part.Site.{Site}
 use Rattle.hm_cells.specs.Closing.{AreAll}
-use Rattle.hm_cells.specs.Facts.{Facts, Made, sight_of}
+use Rattle.hm_cells.specs.Facts.{Facts, Made}
+use Rattle.hm_heap.specs.Tending.{working_sight}
 use Rattle.hm_desk.specs.Desk.{AreOwn, KeepsBook}
 use Rattle.hm_replay.specs.Loading.{AreOfFiles}
 use Rattle.hm_replay.specs.Working.{AreReady}
@@ -50,8 +51,8 @@ own_file c files k orders are is number lengths =
 module _ (m : Made BookUsage) (passes : List (Facts BookUsage)) (files : List (List Order)) (are : AreOfFiles files)
     (all : AreAll m passes) (callers : m.site.shape.callers ≡ length files) (start : IsBookStart m.site.start)
     (limits : Limits) (limits_are : m.site.usage.limits ≡ limits) (lengths : m.site.usage.lengths ≡ map length files)
-    (fresh : All (λ s. IsFresh (sight_of s)) passes)
-    (histories : All (λ s. HasHistory book_lawful book_allowed (sight_of s)) passes) where
+    (fresh : All (λ s. IsFresh (working_sight s)) passes)
+    (histories : All (λ s. HasHistory book_lawful book_allowed (working_sight s)) passes) where
   -- each pass of a fresh heap is ready for its file
   pub ready : AreReady limits passes files
   ready = record {
@@ -59,17 +60,17 @@ module _ (m : Made BookUsage) (passes : List (Facts BookUsage)) (files : List (L
     each = λ k s orders is file.
         let long = slice_get_within passes k s is in
         let at : get_or passes k s ≡ s = get_or_from_slice_get passes k s s is in
-        let new : IsFresh (sight_of s) = subst (λ t. IsFresh (sight_of t)) at (fresh k s long) in
-        let lawful : HasHistory book_lawful book_allowed (sight_of s) =
-        subst (λ t. HasHistory book_lawful book_allowed (sight_of t)) at (histories k s long) in
+        let new : IsFresh (working_sight s) = subst (λ t. IsFresh (working_sight t)) at (fresh k s long) in
+        let lawful : HasHistory book_lawful book_allowed (working_sight s) =
+        subst (λ t. HasHistory book_lawful book_allowed (working_sight t)) at (histories k s long) in
         let site = (all.fits k s is).site in
         let number = all.numbers k s is in
         let within = slice_get_within files k orders file in
         record {
-          keeps = keeps_fresh (sight_of s) new lawful
+          keeps = keeps_fresh (working_sight s) new lawful
               (subst IsBookStart (sym (ap (λ (g : Site BookUsage). g.start) site)) start)
               (omega (arith, number, within, are.few));
-          own = own_file (sight_of s) files k orders are file number
+          own = own_file (working_sight s) files k orders are file number
               (ap (λ (g : Site BookUsage). g.usage.lengths) site ∙ lengths);
           fresh = new;
         };

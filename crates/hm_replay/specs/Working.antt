@@ -4,7 +4,8 @@ use Rattle.hm_orders.specs.declared.order.Order.{Order}
 use Rattle.hm_model.specs.Sight.{IsFresh, IsSameCaller}
 use Rattle.hm_book.specs.declared.limits.Limits.{Limits}
 use Rattle.hm_cellbook.specs.declared.usage.BookUsage.{BookUsage}
-use Rattle.hm_cells.specs.Facts.{Facts, sight_of}
+use Rattle.hm_cells.specs.Facts.{Facts}
+use Rattle.hm_heap.specs.Tending.{working_sight}
 use Rattle.hm_heap.specs.Mutators.{AreSameCallers}
 use Rattle.hm_desk.specs.Desk.{AreOwn, KeepsBook}
 use Rattle.hm_desk.specs.Progress.{HasCome}
@@ -20,22 +21,22 @@ pub record Working : Type 0 where
 
 -- a pass is ready for the orders of its file where it is fresh, and its heap has an empty book
 pub record IsReady (s : Facts BookUsage) (orders : List Order) : Type 0 where
-  pub keeps : KeepsBook (sight_of s).usage.limits (sight_of s)
-  pub own : AreOwn (sight_of s) orders
-  pub fresh : IsFresh (sight_of s)
+  pub keeps : KeepsBook (working_sight s).usage.limits (working_sight s)
+  pub own : AreOwn (working_sight s) orders
+  pub fresh : IsFresh (working_sight s)
 
 -- a job is under these limits where its heap is
 abbrev pub IsUnder : Limits → Working → Type 0
-IsUnder limits w = (sight_of w.pass).usage.limits ≡ limits
+IsUnder limits w = (working_sight w.pass).usage.limits ≡ limits
 
 -- a caller is at work on a heap, and what it notes is so; where it stalled, its region is used up
 pub record IsAtWork (w : Working) : Type 0 where
-  pub keeps : KeepsBook (sight_of w.pass).usage.limits (sight_of w.pass)
-  pub own : AreOwn (sight_of w.pass) w.orders
-  pub come : HasCome (sight_of w.pass) w.orders w.came.progress
-  pub ended : HasEnded (sight_of w.pass).span w.orders w.came.progress.next w.came.progress.told
+  pub keeps : KeepsBook (working_sight w.pass).usage.limits (working_sight w.pass)
+  pub own : AreOwn (working_sight w.pass) w.orders
+  pub come : HasCome (working_sight w.pass) w.orders w.came.progress
+  pub ended : HasEnded (working_sight w.pass).span w.orders w.came.progress.next w.came.progress.told
       w.came.worked
-  pub up : IfStalled w.came.worked (λ place. IsUsedUp (sight_of w.pass))
+  pub up : IfStalled w.came.worked (λ place. IsUsedUp (working_sight w.pass))
 
 -- each pass is ready for the orders of its file, under these limits
 pub record AreReady (limits : Limits) (passes : List (Facts BookUsage))
@@ -44,7 +45,7 @@ pub record AreReady (limits : Limits) (passes : List (Facts BookUsage))
   pub each : (k : ℕ) (s : Facts BookUsage) (orders : List Order) → slice_get passes k ≡ Some s
       → slice_get files k ≡ Some orders → IsReady s orders
   pub limits_are : (k : ℕ) (s : Facts BookUsage) → slice_get passes k ≡ Some s
-      → (sight_of s).usage.limits ≡ limits
+      → (working_sight s).usage.limits ≡ limits
 
 -- jobs have each a pass and the orders of its file, at the same place
 abbrev pub AreJobs : List (Facts BookUsage) → List (List Order) → List Working → Type 0
@@ -62,5 +63,5 @@ pub record HaveWorked (before after : List (Facts BookUsage)) (files : List (Lis
 
 -- a caller works on, on the same heap and the same orders
 pub record Works (v w : Working) : Type 0 where
-  pub caller : IsSameCaller (sight_of v.pass) (sight_of w.pass)
+  pub caller : IsSameCaller (working_sight v.pass) (working_sight w.pass)
   pub orders : w.orders ≡ v.orders

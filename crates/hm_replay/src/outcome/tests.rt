@@ -270,7 +270,7 @@ fn a_failed_write_leaves_a_front_of_the_report(rt: HostRuntime) -> Result<(), Fa
 }
 
 /// How many rows the shortest file has that passes the room, where each order rests behind the others.
-const ROWS_THAT_PASS: u32 = 90;
+const ROWS_THAT_PASS: u32 = 18;
 
 /// The rows of so many asks at rising prices, each of which makes all cells of both its lists anew.
 fn rising_asks(alloc: Global, rows: u32) -> Result<String, AllocError> {
@@ -289,12 +289,13 @@ fn a_file_that_passes_the_room_ends_with_six(rt: HostRuntime) -> Result<(), Fail
         (ROWS_THAT_PASS, 6, "hm: full 1\n"),
     ] {
         let text = rising_asks(rt.alloc(), rows)?;
-        let ran = run_words(&rt, rt.alloc(), &["replay", "a"], &[text.as_str()])?;
+        let words = ["replay", "a", "--versions", "64"];
+        let ran = run_words(&rt, rt.alloc(), &words, &[text.as_str()])?;
         assert_eq!(rt; ran.outcome.status, status, "at {rows}");
         assert_eq!(rt; ran.out.bytes().is_empty(), status == 6, "at {rows}");
         assert_eq!(rt; ran.err.bytes(), line.as_bytes(), "at {rows}");
         let full = ran.outcome.full.map(|at| (at.caller, at.used));
-        assert_eq!(rt; full, if status == 6 { Some((0, 4096)) } else { None });
+        assert_eq!(rt; full, if status == 6 { Some((0, 64)) } else { None });
     }
     Ok(())
 }

@@ -1,19 +1,17 @@
-use Rattle.hm_ops.proofs.FieldLoads.{number_is, number_read, rooted_look}
+use Rattle.std.proofs.Common.{inl}
+use Rattle.hm_ops.proofs.FieldLoads.{loads_reads}
+use Rattle.hm_ops.proofs.OneStep.{rest_works}
 use Rattle.hm_ops.proofs.reading.read_number.Goals as goal
 
-pub load_field-requires-clause-look : goal.load_field-requires-clause-look
-load_field-requires-clause-look g c =
-    rooted_look g.U.Usage.lawful g.U.Usage.allowed c.args.cells.now c.args.pass.now c.args.v
-    c.requires.keeps.sound c.requires.rooted
+pub load_number-requires-clause-works : goal.load_number-requires-clause-works
+load_number-requires-clause-works g c =
+    rest_works g.U.Usage.lawful g.U.Usage.allowed c.args.pass.now c.args.cells.now c.requires.keeps
 
-pub returns-clause-value : goal.returns-clause-value
-returns-clause-value g c =
-    number_is g.U.Usage.lawful g.U.Usage.allowed c.args.cells.now c.args.pass.now c.load_field.new.pass
-    c.args.v c.load_field.result c.requires.keeps c.load_field.ensures.sound c.args.i c.requires.number
-    c.load_field.ensures.took
+pub load_number-requires-clause-kept : goal.load_number-requires-clause-kept
+load_number-requires-clause-kept g c = inl c.requires.rooted
 
 pub returns-clause-reads : goal.returns-clause-reads
 returns-clause-reads g c =
-    number_read g.U.Usage.lawful g.U.Usage.allowed c.args.cells.now c.args.pass.now c.load_field.new.pass
-    c.args.v c.load_field.result c.requires.keeps c.load_field.ensures.sound c.args.i c.requires.number
-    c.load_field.ensures.took c.requires.rooted
+    loads_reads g.U.Usage.lawful g.U.Usage.allowed c.args.cells.now c.args.pass.now c.load_number.new.pass
+    c.args.v c.requires.keeps c.requires.rooted c.load_number.ensures.loads c.load_number.ensures.hand
+    c.load_number.ensures.works

@@ -1,11 +1,17 @@
-use Rattle.std.proofs.Common.{arith}
-use Rattle.hm_ops.specs.Walking.{contents_at}
-use Rattle.hm_ops.proofs.FieldLoads.{rooted_sized, same_list}
+use Rattle.std.proofs.Common.{inl}
+use Rattle.hm_ops.proofs.FieldLoads.{loads_reads}
+use Rattle.hm_ops.proofs.OneStep.{rest_works}
 use Rattle.hm_ops.proofs.reading.read_numbers.Goals as goal
 
-pub returns-clause-value : goal.returns-clause-value
-returns-clause-value g c =
-    same_list c.loop-i.numbers (contents_at c.args.pass.now c.args.v).numbers 10 0 c.loop-i.invariant.ten
-    (rooted_sized g.U.Usage.lawful g.U.Usage.allowed c.args.cells.now c.args.pass.now c.args.v
-    c.requires.keeps c.requires.rooted).ten
-    (λ j low. c.loop-i.invariant.numbers j (omega arith))
+pub load_numbers-requires-clause-works : goal.load_numbers-requires-clause-works
+load_numbers-requires-clause-works g c =
+    rest_works g.U.Usage.lawful g.U.Usage.allowed c.args.pass.now c.args.cells.now c.requires.keeps
+
+pub load_numbers-requires-clause-kept : goal.load_numbers-requires-clause-kept
+load_numbers-requires-clause-kept g c = inl c.requires.rooted
+
+pub returns-clause-reads : goal.returns-clause-reads
+returns-clause-reads g c =
+    loads_reads g.U.Usage.lawful g.U.Usage.allowed c.args.cells.now c.args.pass.now c.load_numbers.new.pass
+    c.args.v c.requires.keeps c.requires.rooted c.load_numbers.ensures.loads c.load_numbers.ensures.hand
+    c.load_numbers.ensures.works

@@ -4,7 +4,7 @@ use Rattle.hm_model.specs.declared.object.Name.{Name}
 use Rattle.hm_model.proofs.SightFacts.{rests_then}
 use Rattle.hm_cells.specs.Facts.{sight_of}
 use Rattle.hm_ops.specs.Walking.{contents_at}
-use Rattle.hm_ops.proofs.PlacedReferences.{bits_all, here_more, others_more, set_more, still_rooted}
+use Rattle.hm_ops.proofs.PlacedReferences.{bits_all, here_more, others_more, outside_other, set_more, still_rooted}
 use Rattle.hm_ops.proofs.FieldLoads.{rooted_sized, same_list}
 use Rattle.hm_ops.proofs.reading.read_references.Goals as goal
 
@@ -26,6 +26,8 @@ loop-i-preserved g c =
       others = others_more g.U.Usage.lawful g.U.Usage.allowed c.args.cells.now c.args.pass.now
           c.loop-i.pass c.read_reference.new.pass c.args.v c.args.hand c.loop-i.i (omega arith) k.known
           k.rooted r.reads k.others;
+      places = λ root out. r.reads.places root.0
+          (outside_other root c.args.hand c.loop-i.i out (omega arith)) ∙ k.places root out;
       four = length-set c.loop-i.set c.loop-i.i c.read_reference.result ∙ k.four;
       set = set_more g.U.Usage.lawful g.U.Usage.allowed c.args.cells.now c.args.pass.now c.loop-i.pass
           c.read_reference.new.pass c.args.v c.args.hand c.loop-i.i (omega arith) k.known k.rooted r.reads
@@ -48,3 +50,6 @@ returns-clause-names g c = record {
   below = λ k low. c.loop-i.invariant.others k (inl low);
   above = λ k high. c.loop-i.invariant.others k (inr (omega arith));
 }
+
+pub returns-clause-places : goal.returns-clause-places
+returns-clause-places g c = c.loop-i.invariant.places

@@ -14,7 +14,7 @@ returns-clause-copies g c =
     let four : length c.args.words ≡ 4 = search rules in
     let ten : length c.args.numbers ≡ 10 = search rules in
     copies_all g.U.Usage.lawful g.U.Usage.allowed c.args.cells.now c.args.pass.now c.write-3.new.pass
-    (c.args.stamp + 1) c.args.numbers c.args.words four ten c.requires.works.sound c.requires.kept
+    c.args.stamp c.args.numbers c.args.words four ten c.requires.works.sound c.requires.kept
     (writes_all c.args.pass.now c.write.new.pass c.write-2.new.pass c.write-3.new.pass 0
-    (0 ∷ (c.args.stamp + 1) ∷ []) c.args.words c.args.numbers four ten c.requires.kept c.write.ensures.wrote
+    (0 ∷ c.args.stamp ∷ []) c.args.words c.args.numbers four ten c.requires.kept c.write.ensures.wrote
     c.write-2.ensures.wrote c.write-3.ensures.wrote) c.write-3.ensures.works.sound

@@ -4,7 +4,7 @@ use Rattle.hm_desk.specs.declared.desk.Worked.TheVariants.{Memory}
 use Rattle.hm_desk.specs.declared.progress.Progress.{Progress}
 use Rattle.hm_desk.proofs.Fresh.{fresh_come}
 use Rattle.hm_heap.specs.Mutators.{Mutating}
-use Rattle.hm_cells.specs.Facts.{sight_of}
+use Rattle.hm_heap.specs.Tending.{working_sight}
 use Rattle.hm_replay.specs.Working.{IsAtWork, Working}
 use Rattle.hm_replay.proofs.job.Job.new.Goals as goal
 
@@ -20,7 +20,7 @@ invariant_of-result c =
     let at_work : IsAtWork fresh = record {
       keeps = ready.keeps;
       own = ready.own;
-      come = fresh_come (sight_of c.args.pass) c.args.orders.now ready.fresh ready.keeps.start;
+      come = fresh_come (working_sight c.args.pass) c.args.orders.now ready.fresh ready.keeps.start;
       ended = tt;
       up = tt;
     } in

@@ -1,0 +1,3 @@
+pub mod Standing
+pub mod Roles
+pub mod Cycling

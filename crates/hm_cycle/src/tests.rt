@@ -1,0 +1,1 @@
+//! Cycles of two callers, on one thread.
